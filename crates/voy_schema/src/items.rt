@@ -1,0 +1,122 @@
+ghost use Rattle.std.specs.Prelude.{◌≡◌, [], ◌∷◌, ◌++◌, ◌<◌, ◌↔◌, length, slice_get, insert, remove, slice_set, IsTrue, IfOk, OnOk, OnErr, OnSome};
+ghost use Rattle.std.specs.Option.{option_copied};
+
+use crate::copying::{Copies, Same};
+use std::alloc::{AllocError, Global};
+use std::marker::Model;
+
+/// A list, which contracts see as the list of its items.
+#[derive(Debug, Drop)]
+pub struct Items<T> {
+    items: Vec<T>,
+}
+
+impl<T> Model for Items<T> {
+    ghost use Rattle.std.specs.Prelude.{List};
+    ghost use Rattle.std.specs.Coded.{coded_list};
+
+    ghost Value = { List T };
+
+    ghost coded = { coded_list T.code };
+
+    ghost view = { λ it. it.items.items };
+}
+
+impl<T> Items<T> {
+    /// An empty list, which takes no memory until something is put in.
+    pub fn new(alloc: Global) -> Items<T>
+        ensures { result ≡ [] }
+    {
+        Items {
+            items: Vec::new(alloc),
+        }
+    }
+
+    /// The items of `items`, with no memory taken.
+    pub fn from_vec(items: Vec<T>) -> Items<T>
+        ensures { result ≡ items.items }
+    {
+        Items { items }
+    }
+
+    /// The items as a `Vec`, with no memory taken.
+    pub fn into_vec(self) -> Vec<T>
+        ensures { result.items ≡ self }
+    {
+        let Items { items } = self;
+        items
+    }
+
+    pub fn as_slice(&self) -> &[T]
+        ensures { result.now ≡ self.now }
+    {
+        self.items.as_slice()
+    }
+
+    pub fn len(&self) -> usize
+        ensures { result ≡ length self.now }
+    {
+        self.items.len()
+    }
+
+    pub fn is_empty(&self) -> bool
+        ensures { IsTrue result ↔ (self.now ≡ []) }
+    {
+        self.items.is_empty()
+    }
+
+    pub fn get(&self, at: usize) -> Option<&T>
+        ensures value { option_copied result ≡ slice_get self.now at }
+        ensures within { OnSome result (at < length self.now) }
+    {
+        self.items.get(at)
+    }
+}
+
+impl<T: Drop> Items<T> {
+    /// Puts `item` at the end. After an error nothing changed.
+    pub fn push(&mut self, item: T) -> Result<(), AllocError>
+        ensures ok { OnOk result (self.new ≡ self.old ++ item ∷ []) }
+        ensures err { OnErr result (self.new ≡ self.old) }
+    {
+        self.items.push(item)?;
+        Ok(())
+    }
+}
+
+impl<T: Copy> Items<T> {
+    /// Puts all of `items` at the end. After an error nothing changed.
+    pub fn append_slice(&mut self, items: &[T]) -> Result<(), AllocError>
+        ensures ok { OnOk result (self.new ≡ self.old ++ items.now) }
+        ensures err { OnErr result (self.new ≡ self.old) }
+    {
+        self.items.extend_from_slice(items)?;
+        Ok(())
+    }
+}
+
+impl<T: Copies + Drop> Copies for Items<T> {
+    fn copy(&self) -> Result<Self, AllocError> {
+        let mut copied = Vec::new(*self.items.allocator());
+        for item in self.items.as_slice() {
+            copied.push(item.copy()?)?;
+        }
+        Ok(Items { items: copied })
+    }
+}
+
+impl<T: Same> Same for Items<T> {
+    fn same(&self, other: &Self) -> bool {
+        let a = self.items.as_slice();
+        let b = other.items.as_slice();
+        if a.len() != b.len() {
+            return false;
+        }
+        for i in 0..a.len() {
+            if !a[i].same(&b[i]) {
+                return false;
+            }
+        }
+        true
+    }
+}

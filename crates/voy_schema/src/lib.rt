@@ -1,0 +1,21 @@
+//! The tables of a move: their columns, keys and values, and the small types that every crate above shares.
+//!
+//! [`Schema`] is what `schema.json` states. A value is a text or NULL, and is lawful for its column's
+//! [`Kind`] as PostgreSQL prints that type. Contracts see a [`Text`] as its bytes and an [`Items`] as
+//! the list of its items, so that two values are equal exactly where they hold the same.
+#![tactic(auto)]
+
+mod copying;
+mod items;
+mod numbers;
+mod schema;
+mod table;
+mod text;
+mod value;
+
+pub use copying::{Copies, Same};
+pub use items::Items;
+pub use schema::Schema;
+pub use table::{Column, Columns, Kind, Places, Table, Tables, UniqueKey, UniqueKeys};
+pub use text::Text;
+pub use value::{Bytes, Key, Row, Rows, Value};

@@ -1,0 +1,40 @@
+use crate::copying::{Copies, Same};
+use crate::items::Items;
+use crate::text::Text;
+use std::alloc::AllocError;
+
+/// What a row has in a column: NULL, or a text in the form that the column's kind asks for.
+#[derive(Debug, Drop)]
+pub enum Value {
+    Null,
+    Text(Text),
+}
+
+/// One value for each column of a table, in the schema's order.
+pub type Row = Items<Value>;
+
+pub type Rows = Items<Row>;
+
+/// The texts of a row's key columns, in the order of the key.
+pub type Key = Items<Text>;
+
+pub type Bytes = Items<u8>;
+
+impl Copies for Value {
+    fn copy(&self) -> Result<Self, AllocError> {
+        match self {
+            Value::Null => Ok(Value::Null),
+            Value::Text(text) => Ok(Value::Text(text.copy()?)),
+        }
+    }
+}
+
+impl Same for Value {
+    fn same(&self, other: &Self) -> bool {
+        match (self, other) {
+            (Value::Null, Value::Null) => true,
+            (Value::Text(a), Value::Text(b)) => a.same(b),
+            _ => false,
+        }
+    }
+}

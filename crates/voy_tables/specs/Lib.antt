@@ -1,0 +1,5 @@
+pub mod Keys
+pub mod Changes
+pub mod Tables
+pub mod Lists
+pub mod RowText

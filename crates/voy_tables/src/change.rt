@@ -1,0 +1,92 @@
+use std::alloc::AllocError;
+use voy_schema::{Copies, Items, Row, Rows};
+
+/// Which store an import fills.
+#[derive(Clone, Copy, Debug, PartialEq, Eq)]
+pub enum Side {
+    Target,
+    Source,
+}
+
+/// Which exporter wrote an event.
+#[derive(Clone, Copy, Debug, PartialEq, Eq)]
+pub enum Role {
+    Source,
+    Target,
+}
+
+/// Where a change stands in the recorded stream: its commit, and its place within that commit.
+#[derive(Clone, Copy, Debug, PartialEq, Eq, PartialOrd, Ord)]
+pub struct Spot {
+    pub commit: u64,
+    pub seq: u64,
+}
+
+/// A change of one row. A table is named by its place in the schema, from 0.
+#[derive(Debug, Drop)]
+pub enum Change {
+    Insert { table: u32, after: Row },
+    Update { table: u32, before: Row, after: Row },
+    Delete { table: u32, before: Row },
+}
+
+/// Why a change does not fit the tables, the first cause that holds.
+#[derive(Clone, Copy, Debug, PartialEq, Eq)]
+pub enum Misfit {
+    /// An insert whose key is there already.
+    KeyTaken,
+    /// An update or delete of a key that is not there.
+    NoRow,
+    /// An update or delete of a row that stands otherwise than the change says.
+    OtherRow,
+    /// Another row has the same tuple of this unique key, the least such key of the table.
+    Unique { key: u32 },
+}
+
+/// For each table of a schema, its rows.
+pub type RowLists = Items<Rows>;
+
+impl Change {
+    /// The place of its table in the schema.
+    pub fn table(&self) -> u32 {
+        match self {
+            Change::Insert { table, .. } => *table,
+            Change::Update { table, .. } => *table,
+            Change::Delete { table, .. } => *table,
+        }
+    }
+}
+
+impl Copies for Change {
+    fn copy(&self) -> Result<Self, AllocError> {
+        match self {
+            Change::Insert { table, after } => {
+                let after = after.copy()?;
+                Ok(Change::Insert {
+                    table: *table,
+                    after,
+                })
+            }
+            Change::Update {
+                table,
+                before,
+                after,
+            } => {
+                let before = before.copy()?;
+                let after = after.copy()?;
+                Ok(Change::Update {
+                    table: *table,
+                    before,
+                    after,
+                })
+            }
+            Change::Delete { table, before } => {
+                let before = before.copy()?;
+                Ok(Change::Delete {
+                    table: *table,
+                    before,
+                })
+            }
+        }
+    }
+}
