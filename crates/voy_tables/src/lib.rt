@@ -4,7 +4,11 @@
 #![tactic(auto)]
 
 mod change;
+mod fitting;
+mod keys;
+mod placing;
 mod row_text;
 
 pub use change::{Change, Misfit, Role, RowLists, Side, Spot};
+pub use keys::key_of;
 pub use row_text::write_row;
