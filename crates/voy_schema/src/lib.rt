@@ -7,6 +7,7 @@
 
 mod copying;
 mod items;
+mod lawful;
 mod numbers;
 mod schema;
 mod table;
@@ -15,6 +16,7 @@ mod value;
 
 pub use copying::{Copies, Same};
 pub use items::Items;
+pub use lawful::check_value;
 pub use schema::Schema;
 pub use table::{Column, Columns, Kind, Places, Table, Tables, UniqueKey, UniqueKeys};
 pub use text::Text;
