@@ -2,7 +2,7 @@ use Rattle.std.proofs.Common.{rules, ◌≡◌, ◌∙◌, true, false, get_or, 
 use Rattle.std.proofs.lemmas.Int.{to_z-of_z}
 use Rattle.voy_schema.specs.Values.{is_decimal}
 use Rattle.voy_schema.proofs.BigintLemmas.{refused, minus_read, minus_refused, rest}
-use Rattle.voy_schema.proofs.lawful.is_bigint.Goals as goal
+use Rattle.voy_schema.proofs.kinds.is_bigint.Goals as goal
 
 pub returns-in_default : goal.returns-in_default
 returns-in_default c = sym (refused c.args.text.now c.in_default.field-0 c.parse.result c.in_default.is c.parse.ensures.value.0)

@@ -1,6 +1,6 @@
 use Rattle.std.proofs.lemmas.Str.{is_utf8-from_IsUtf8}
 use Rattle.voy_schema.specs.Values.{is_text}
-use Rattle.voy_schema.proofs.lawful.is_text.Goals as goal
+use Rattle.voy_schema.proofs.kinds.is_text.Goals as goal
 
 pub returns : goal.returns
 unfolding is_text
