@@ -1,0 +1,30 @@
+ghost use Rattle.std.specs.Prelude.{◌≡◌, map};
+ghost use Rattle.std.specs.List.{list_any};
+ghost use Rattle.std.specs.Str.{bytes_eq};
+ghost use Rattle.serde_json.specs.View.{view};
+ghost use Rattle.voy_json.specs.Document.{has_names, has_only_names};
+
+use serde_json::Value;
+
+/// Whether each of these is a name of the object `value`.
+pub fn has_all(value: &Value, names: &[&str]) -> bool
+    ensures { result ≡ has_names (map (λ name. name.now) names.now) (view value.now) }
+{
+    names.iter().all(|name| value.get(*name).is_some())
+}
+
+/// Whether the object `value` has no name but these.
+pub fn has_only(value: &Value, names: &[&str]) -> bool
+    ensures { result ≡ has_only_names (map (λ name. name.now) names.now) (view value.now) }
+{
+    match value.as_object() {
+        Some(members) => members.keys().all(|key| is_one_of(key.as_str(), names)),
+        None => true,
+    }
+}
+
+fn is_one_of(name: &str, names: &[&str]) -> bool
+    ensures { result ≡ list_any (bytes_eq name.now) (map (λ known. known.now) names.now) }
+{
+    names.iter().any(|known| name == *known)
+}
