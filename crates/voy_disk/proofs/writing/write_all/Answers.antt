@@ -1,4 +1,4 @@
-use Rattle.std.proofs.Common.{arith, length-drop, rules}
+use Rattle.std.proofs.Common.{rules}
 use Rattle.std.proofs.lemmas.List.{take_rest}
 use Rattle.voy_disk.proofs.Growing.{written_more, front_at_error}
 use Rattle.voy_disk.proofs.writing.write_all.Goals as goal
