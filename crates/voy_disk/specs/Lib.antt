@@ -1,0 +1,12 @@
+pub mod Faults
+pub mod File
+pub mod Files
+pub mod HostDisk
+pub mod HostSink
+pub mod MemDisk
+pub mod MemFiles
+pub mod MemSink
+pub mod Name
+pub mod Plan
+pub mod SureDisk
+pub mod Written

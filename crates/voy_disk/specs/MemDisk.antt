@@ -1,0 +1,39 @@
+-- What contracts see of a disk in memory whose calls fail by a plan.
+use Rattle.std.specs.Prelude.{◌≡◌, ℕ, Bool}
+use Rattle.voy_disk.specs.declared.mem_disk.MemDisk.{MemDisk}
+use Rattle.voy_disk.specs.declared.plan.FaultPlan.{FaultPlan}
+use Rattle.voy_disk.specs.Faults.{count_after}
+use Rattle.voy_disk.specs.Files.{Files}
+use Rattle.voy_disk.specs.MemFiles.{files_of}
+use Rattle.voy_disk.specs.Plan.{has_planned}
+
+-- its files
+abbrev pub mem_disk_files : MemDisk → Files
+mem_disk_files disk = files_of disk.files
+
+-- how many calls it had
+abbrev pub mem_disk_calls : MemDisk → ℕ
+mem_disk_calls disk = disk.calls
+
+-- by which plan its calls fail
+abbrev pub mem_disk_plan : MemDisk → FaultPlan
+mem_disk_plan disk = disk.plan
+
+-- how many of its calls failed
+abbrev pub mem_disk_faults : MemDisk → ℕ
+mem_disk_faults disk = disk.faults
+
+-- the plan has the number of the next call
+abbrev pub fails_next : MemDisk → Bool
+fails_next disk = has_planned disk.plan (count_after disk.calls)
+
+-- a call was counted, and the plan stays
+pub record CountsCall (old new : MemDisk) : Type 0 where
+  pub calls : mem_disk_calls new ≡ count_after (mem_disk_calls old)
+  pub plan : mem_disk_plan new ≡ mem_disk_plan old
+
+-- the number of calls, the plan and the count of faults stay
+pub record KeepsPlan (old new : MemDisk) : Type 0 where
+  pub calls : mem_disk_calls new ≡ mem_disk_calls old
+  pub plan : mem_disk_plan new ≡ mem_disk_plan old
+  pub faults : mem_disk_faults new ≡ mem_disk_faults old

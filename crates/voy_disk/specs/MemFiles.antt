@@ -1,0 +1,29 @@
+-- The files of a disk in memory.
+use Rattle.std.specs.Prelude.{List, ℕ, String, Option, Some, None, IfSome}
+use Rattle.std.specs.BTreeMap.{BTreeMap, get_by_text}
+use Rattle.std.specs.Option.{option_map}
+use denote.Ref.{Bor}
+use Rattle.voy_disk.specs.declared.file.MemFile.{MemFile}
+use Rattle.voy_disk.specs.File.{File, IsImage}
+use Rattle.voy_disk.specs.Files.{Files, ReadsImages}
+
+-- what a file in memory reads now, its safe bytes and its touched ranges
+abbrev pub file_of : MemFile → File
+file_of file = record { now = file.bytes.items; safe = file.safe.items; touched = file.touched.items }
+
+found_reads_an_image : (found : Option MemFile) → IfSome (option_map file_of found) (λ file. IsImage file file.now)
+found_reads_an_image None = tt
+found_reads_an_image (Some file) = file.reads
+
+module _ {Y : Type 0} where
+  -- the file that the map has at the name
+  abbrev pub files_of : BTreeMap (String Y) MemFile → Files
+  files_of map name = option_map file_of (get_by_text map name)
+
+  -- the bytes that a file in memory reads now are one of its images
+  pub files_read_images : (map : BTreeMap (String Y) MemFile) → ReadsImages (files_of map)
+  files_read_images map name = found_reads_an_image (get_by_text map name)
+
+-- the bytes that a lent slice shows, if one is lent
+abbrev pub shown : Option (Bor (List ℕ)) → Option (List ℕ)
+shown bytes = option_map (λ slice. slice.now) bytes

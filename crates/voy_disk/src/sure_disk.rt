@@ -1,0 +1,80 @@
+ghost use base.Fml.{GName};
+ghost use Rattle.std.specs.Prelude.{◌≡◌, ◌≤◌, ◌<◌, ◌^◌, ◌↔◌, ℕ, [], Some, None, length, IfOk, IfSome, OnOk, OnErr, IsErrOf};
+ghost use Rattle.std.specs.Option.{option_map};
+ghost use Rattle.voy_disk.specs.Files.{Files, Told, Puts, length_of, bytes_now, Reads, NothingToRead};
+ghost use Rattle.voy_disk.specs.MemFiles.{shown, files_read_images};
+
+use std::alloc::{AllocError, Global};
+use std::collections::BTreeMap;
+
+use crate::disk::{Disk, DiskError};
+use crate::mem_files::{MemFiles, bytes_in, length_in, put_in, read_in};
+use crate::name::Name;
+
+/// A disk in memory that never fails. It tells its files, and its count of faults stands at 0.
+#[derive(Debug, Drop)]
+pub struct SureDisk {
+    alloc: Global,
+    files: MemFiles,
+}
+
+impl SureDisk {
+    ghost use Rattle.voy_disk.specs.SureDisk.{sure_disk_files};
+
+    /// A disk without files.
+    pub fn new(alloc: Global) -> SureDisk
+        ensures { (name : _) → sure_disk_files result name ≡ None }
+    {
+        SureDisk {
+            alloc,
+            files: BTreeMap::new(alloc),
+        }
+    }
+
+    /// Puts a file with exactly these bytes on the disk, safe at once, in place of one of that name.
+    /// It fails only where memory is refused; then nothing changed.
+    pub fn put_file(&mut self, name: &Name, bytes: &[u8]) -> Result<(), AllocError>
+        ensures ok { OnOk result (Puts name.now bytes.now (sure_disk_files self.old) (sure_disk_files self.new)) }
+        ensures err { OnErr result (sure_disk_files self.new ≡ sure_disk_files self.old) }
+    {
+        put_in(self.alloc, &mut self.files, name, bytes)
+    }
+
+    /// The bytes that the file reads now, or `None` where there is no such file.
+    pub fn file(&self, name: &Name) -> Option<&[u8]>
+        ensures { shown result ≡ option_map (λ file. file.now) (sure_disk_files self.now name.now) }
+    {
+        bytes_in(&self.files, name)
+    }
+}
+
+impl Disk for SureDisk {
+    ghost use Rattle.voy_disk.specs.SureDisk.{sure_disk_files};
+
+    ghost files = { λ disk. Some (sure_disk_files disk) };
+
+    ghost faults = { λ _. 0 };
+
+    ghost lender = { λ _. [] };
+
+    fn len(&mut self, name: &Name) -> Result<Option<u64>, DiskError>
+        ensures length { IfOk result (λ n. n ≡ length_of (sure_disk_files self.old name.now)) }
+        ensures short { IfOk result (λ n. IfSome n (λ bytes. bytes < 2 ^ 63)) }
+        ensures same { sure_disk_files self.new ≡ sure_disk_files self.old }
+        ensures sure { ¬ IsErrOf result DiskError.Failed }
+    {
+        Ok(length_in(&self.files, name))
+    }
+
+    fn read_at(&mut self, name: &Name, at: u64, into: &mut [u8]) -> Result<usize, DiskError>
+        ensures within { IfOk result (λ n. n ≤ length into.old) }
+        ensures bytes { IfOk result (λ n. Reads (bytes_now (sure_disk_files self.old name.now)) at n into.old into.new) }
+        ensures some { IfOk result (λ n. (n ≡ 0) ↔ NothingToRead (bytes_now (sure_disk_files self.old name.now)) at into.old) }
+        ensures same { sure_disk_files self.new ≡ sure_disk_files self.old }
+        ensures sure { ¬ IsErrOf result DiskError.Failed }
+    {
+        Ok(read_in(&self.files, name, at, into))
+    }
+
+    ghost reads_an_image = { λ disk. files_read_images disk.files };
+}
