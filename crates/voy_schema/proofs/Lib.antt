@@ -1,0 +1,2 @@
+pub mod BigintLemmas
+pub mod RowLemmas
