@@ -1,3 +1,4 @@
 pub mod Lawful
 pub mod Values
 pub mod Rows
+pub mod Lending

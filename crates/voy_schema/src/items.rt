@@ -1,5 +1,7 @@
-ghost use Rattle.std.specs.Prelude.{◌≡◌, [], ◌∷◌, ◌++◌, ◌<◌, ◌↔◌, length, slice_get, insert, remove, slice_set, IsTrue, IfOk, OnOk, OnErr, OnSome};
+ghost use Rattle.std.specs.Prelude.{◌≡◌, [], ◌∷◌, ◌++◌, ◌<◌, ◌≤◌, ◌↔◌, length, slice_get, slice_index_or, insert, remove, slice_set, IsTrue, IfOk, OnOk, OnErr, OnSome};
 ghost use Rattle.std.specs.Option.{option_copied};
+ghost use Rattle.std.specs.Borrow.{sem};
+ghost use Rattle.voy_schema.specs.Lending.{LendsItem};
 
 use crate::copying::{Copies, Same};
 use std::alloc::{AllocError, Global};
@@ -65,6 +67,15 @@ impl<T> Items<T> {
         self.items.is_empty()
     }
 
+    /// The item at `at`, to be changed in place.
+    pub fn item_mut(&mut self, at: usize) -> &mut T
+        requires { at < length self.old }
+        ensures* writes_back { sem 𝓛 (LendsItem T.row self.entry at result) }
+        ensures value { result.now ≡ slice_index_or self.old at result.now }
+    {
+        &mut self.items[at]
+    }
+
     pub fn get(&self, at: usize) -> Option<&T>
         ensures value { option_copied result ≡ slice_get self.now at }
         ensures within { OnSome result (at < length self.now) }
@@ -81,6 +92,32 @@ impl<T: Drop> Items<T> {
     {
         self.items.push(item)?;
         Ok(())
+    }
+
+    /// Puts `item` at the place `at`, in front of what stands there. After an error nothing changed.
+    pub fn insert(&mut self, at: usize, item: T) -> Result<(), AllocError>
+        requires { at ≤ length self.old }
+        ensures ok { OnOk result (self.new ≡ insert self.old at item) }
+        ensures err { OnErr result (self.new ≡ self.old) }
+    {
+        self.items.insert(at, item)?;
+        Ok(())
+    }
+
+    /// Puts `item` in the place of the one at `at`.
+    pub fn replace(&mut self, at: usize, item: T)
+        requires { at < length self.old }
+        ensures { self.new ≡ slice_set self.old at item }
+    {
+        self.items[at] = item;
+    }
+
+    /// Takes out the item at `at`.
+    pub fn remove(&mut self, at: usize)
+        requires { at < length self.old }
+        ensures { self.new ≡ remove self.old at }
+    {
+        let _removed = self.items.remove(at);
     }
 }
 

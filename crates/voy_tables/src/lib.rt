@@ -4,5 +4,7 @@
 #![tactic(auto)]
 
 mod change;
+mod row_text;
 
 pub use change::{Change, Misfit, Role, RowLists, Side, Spot};
+pub use row_text::write_row;
