@@ -1,0 +1,5 @@
+pub mod Words
+pub mod Refusal
+pub mod Fields
+pub mod ChangeLine
+pub mod EventLine

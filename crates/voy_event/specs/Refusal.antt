@@ -1,0 +1,19 @@
+-- What a refusal of a line says.
+use Rattle.std.specs.Prelude.{◌≡◌, ℕ, List, Result, Ok, Err, codes}
+use Rattle.voy_event.specs.declared.line_error.LineError.{LineError}
+use Rattle.voy_event.specs.declared.line_error.LineError.TheVariants.{Bad, NoMemory}
+use Rattle.voy_event.specs.declared.line_error.LineWhy.{LineWhy}
+use Rattle.voy_event.specs.declared.line_error.LineWhy.TheVariants as why
+
+-- the reading is that refusal, or memory was not found
+abbrev pub Refuses : {A : Type 0} → Result A LineWhy → LineError → Type 0
+Refuses reading (Bad cause) = reading ≡ Err cause
+Refuses reading NoMemory = Unit {0}
+
+abbrev pub text_of_why : LineWhy → List ℕ
+text_of_why why.TooLong = codes "too long"
+text_of_why why.NotJson = codes "not json"
+text_of_why why.BadOp = codes "bad op"
+text_of_why why.Missing = codes "missing name"
+text_of_why why.Unknown = codes "unknown name"
+text_of_why why.BadValue = codes "bad value"

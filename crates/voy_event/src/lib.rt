@@ -1,0 +1,22 @@
+//! Event lines of the queue and recorded change lines: what they say, and the text that says it.
+//!
+//! [`read_line`] reads an event line by the schema and [`write_line`] writes one; [`read_change`] reads
+//! a line of a recording. A line is a JSON object. Which bytes are which event, and which refusal comes
+//! first where they are none, is one definition, `line_reading` of `specs/EventLine.antt`; for recorded
+//! lines it is `recorded_reading` of `specs/RecordedLine.antt`. Both share the rules on changes of
+//! `specs/ChangeLine.antt`.
+#![tactic(auto)]
+
+mod change_line;
+mod event;
+mod event_line;
+mod fields;
+mod limits;
+mod line_error;
+mod stand_in;
+mod words;
+
+pub use event::{Event, What};
+pub use event_line::read_line;
+pub use limits::{MAX_EVENT_LINE_BYTES, MAX_RECORDED_LINE_BYTES};
+pub use line_error::{LineError, LineWhy};
