@@ -8,6 +8,7 @@
 mod copying;
 mod distinct;
 mod items;
+mod json;
 mod kinds;
 mod lawful;
 mod limits;
@@ -15,6 +16,7 @@ mod names;
 mod numbers;
 mod rows;
 mod schema;
+mod stated;
 mod table;
 mod text;
 mod value;
