@@ -3,3 +3,4 @@ pub mod Values
 pub mod Rows
 pub mod LawfulLaws
 pub mod Stated
+pub mod Reading
