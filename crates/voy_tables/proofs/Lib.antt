@@ -1,3 +1,5 @@
 pub mod SameLemmas
 pub mod MisfitLemmas
 pub mod PlaceLemmas
+pub mod OrderLemmas
+pub mod TableLemmas

@@ -5,10 +5,14 @@
 
 mod change;
 mod fitting;
+mod forming;
 mod keys;
 mod placing;
+mod plain;
 mod row_text;
 
-pub use change::{Change, Misfit, Role, RowLists, Side, Spot};
+pub use change::{Change, Misfit, PlainError, Role, RowLists, Side, Spot};
+pub use forming::well_formed;
 pub use keys::key_of;
+pub use plain::Plain;
 pub use row_text::write_row;
