@@ -1,6 +1,6 @@
 -- What a schema keeps: the limits, the form of names, and keys that name columns.
-use Rattle.std.specs.Prelude.{ℕ, Bool, true, false, List, [], ◌∷◌, ◌&&◌, ◌||◌, ◌==◌, length, map, nat_eq, nat_le, nat_lt, not}
-use Rattle.std.specs.List.{list_all, list_any}
+use Rattle.std.specs.Prelude.{ℕ, Bool, true, false, List, [], ◌∷◌, ◌&&◌, ◌||◌, ◌==◌, length, map, nat_eq, nat_le, nat_lt, not, Option}
+use Rattle.std.specs.List.{list_all, list_any, position}
 use Rattle.std.specs.Str.{bytes_eq}
 use Rattle.voy_schema.specs.declared.table.Column.{Column}
 use Rattle.voy_schema.specs.declared.table.Table.{Table}
@@ -42,6 +42,13 @@ is_lawful_table t =
 -- both have the same schema name and the same table name
 abbrev pub has_same_names : Table → Table → Bool
 has_same_names a b = bytes_eq a.schema_name b.schema_name && bytes_eq a.table_name b.table_name
+
+abbrev pub is_named : List ℕ → List ℕ → Table → Bool
+is_named schema_name table_name t = bytes_eq t.schema_name schema_name && bytes_eq t.table_name table_name
+
+-- the place of the table with these names, from 0
+abbrev pub place_of : List ℕ → List ℕ → List Table → Option ℕ
+place_of schema_name table_name tables = position (is_named schema_name table_name) tables
 
 -- 1 to 256 lawful tables, each under names of its own
 abbrev pub is_lawful : List Table → Bool

@@ -2,3 +2,4 @@ pub mod Lawful
 pub mod Values
 pub mod Rows
 pub mod Lending
+pub mod LawfulLaws

@@ -64,5 +64,6 @@ fn has_namesake(tables: &[Table], table: &Table) -> bool
 fn has_same_names(a: &Table, b: &Table) -> bool
     ensures { result ≡ has_same_names a.now b.now }
 {
-    a.schema_name.as_str() == b.schema_name.as_str() && a.table_name.as_str() == b.table_name.as_str()
+    a.schema_name.as_str() == b.schema_name.as_str()
+        && a.table_name.as_str() == b.table_name.as_str()
 }

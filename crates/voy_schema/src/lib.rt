@@ -9,6 +9,7 @@ mod copying;
 mod distinct;
 mod items;
 mod kinds;
+mod lawful;
 mod limits;
 mod names;
 mod numbers;

@@ -41,7 +41,11 @@ fn has_lawful_values(columns: &[Column], values: &[Value]) -> bool
 fn has_whole_key(table: &Table, row: &Row) -> bool
     ensures { result ≡ has_whole_key table.now row.now }
 {
-    table.primary_key.as_slice().iter().all(|place| has_value(row, *place))
+    table
+        .primary_key
+        .as_slice()
+        .iter()
+        .all(|place| has_value(row, *place))
 }
 
 /// Whether the row has a value in the column at `place` that is not NULL.

@@ -1,8 +1,10 @@
-ghost use Rattle.std.specs.Prelude.{◌≡◌, true};
-ghost use Rattle.voy_schema.specs.Lawful.{is_lawful};
+ghost use Rattle.std.specs.Prelude.{◌≡◌, ◌<◌, true, false, length, slice_get, IfSome, MatchOption};
+ghost use Rattle.std.specs.Option.{option_copied};
+ghost use Rattle.voy_schema.specs.Lawful.{is_lawful, is_lawful_table, place_of};
 
 use crate::copying::Copies;
-use crate::table::Tables;
+use crate::lawful;
+use crate::table::{Table, Tables};
 use std::alloc::AllocError;
 
 /// The tables of a move, in the order of `schema.json`. A table is named by its place there, from 0.
@@ -12,6 +14,40 @@ use std::alloc::AllocError;
 pub struct Schema {
     pub tables: Tables,
     pub ghost lawful: { is_lawful tables ≡ true },
+}
+
+impl Schema {
+    /// The schema with these tables, with no memory taken. `None` where a limit, the form of a name or
+    /// the rule of a key is broken, or two tables have both names in common.
+    pub fn new(tables: Tables) -> Option<Schema>
+        ensures { MatchOption result (is_lawful tables ≡ false) (λ s. s.tables ≡ tables) }
+    {
+        if lawful::is_lawful(tables.as_slice()) {
+            Some(Schema { tables })
+        } else {
+            None
+        }
+    }
+
+    /// The place of the table with these names, from 0. `None` where there is none.
+    pub fn find(&self, schema_name: &str, table_name: &str) -> Option<u32>
+        ensures { result ≡ place_of schema_name.now table_name.now self.now.tables }
+    {
+        for (place, table) in self.tables.as_slice().iter().enumerate() {
+            if table.is_named(schema_name, table_name) {
+                return Some(place as u32);
+            }
+        }
+        None
+    }
+
+    /// The table at this place. `None` where there are no more than `at` tables.
+    pub fn table(&self, at: usize) -> Option<&Table>
+        ensures value { option_copied result ≡ slice_get self.now.tables at }
+        ensures lawful { IfSome result (λ t. is_lawful_table t.now ≡ true) }
+    {
+        self.tables.get(at)
+    }
 }
 
 impl Copies for Schema {

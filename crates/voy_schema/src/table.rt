@@ -43,6 +43,18 @@ pub struct Table {
 
 pub type Tables = Items<Table>;
 
+impl Table {
+    ghost use Rattle.std.specs.Prelude.{◌≡◌};
+    ghost use Rattle.voy_schema.specs.Lawful.{is_named};
+
+    /// Whether the table has these two names.
+    pub fn is_named(&self, schema_name: &str, table_name: &str) -> bool
+        ensures { result ≡ is_named schema_name.now table_name.now self.now }
+    {
+        self.schema_name.as_str() == schema_name && self.table_name.as_str() == table_name
+    }
+}
+
 impl Copies for Column {
     fn copy(&self) -> Result<Self, AllocError> {
         let name = self.name.copy()?;
