@@ -3,3 +3,4 @@ pub mod Refusal
 pub mod Fields
 pub mod ChangeLine
 pub mod EventLine
+pub mod LawfulEvent
