@@ -3,15 +3,14 @@ ghost use Rattle.std.specs.Prelude.{◌≡◌, ◌≤◌, ◌<◌, ◌^◌, ◌�
 ghost use Rattle.std.specs.Option.{option_map};
 ghost use Rattle.voy_disk.specs.Faults.{HasCause};
 ghost use Rattle.voy_disk.specs.Files.{Files, Told, Puts, length_of, bytes_now, Reads, NothingToRead};
-ghost use Rattle.voy_disk.specs.MemFiles.{shown, files_read_images};
-
-use std::alloc::{AllocError, Global};
-use std::collections::BTreeMap;
+ghost use Rattle.voy_disk.specs.MemFiles.{shown, files_read_images, files_are_short};
 
 use crate::disk::{Disk, DiskError};
 use crate::mem_files::{MemFiles, bytes_in, length_in, put_in, read_in};
 use crate::name::Name;
 use crate::plan::FaultPlan;
+use std::alloc::{AllocError, Global};
+use std::collections::BTreeMap;
 
 /// A disk in memory whose calls fail by a plan. It tells its files.
 ///
@@ -121,4 +120,6 @@ impl Disk for MemDisk {
     }
 
     ghost reads_an_image = { λ disk. files_read_images disk.files };
+
+    ghost has_short_files = { λ disk. files_are_short disk.files };
 }

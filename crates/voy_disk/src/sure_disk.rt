@@ -2,14 +2,13 @@ ghost use base.Fml.{GName};
 ghost use Rattle.std.specs.Prelude.{◌≡◌, ◌≤◌, ◌<◌, ◌^◌, ◌↔◌, ℕ, [], Some, None, length, IfOk, IfSome, OnOk, OnErr, IsErrOf};
 ghost use Rattle.std.specs.Option.{option_map};
 ghost use Rattle.voy_disk.specs.Files.{Files, Told, Puts, length_of, bytes_now, Reads, NothingToRead};
-ghost use Rattle.voy_disk.specs.MemFiles.{shown, files_read_images};
-
-use std::alloc::{AllocError, Global};
-use std::collections::BTreeMap;
+ghost use Rattle.voy_disk.specs.MemFiles.{shown, files_read_images, files_are_short};
 
 use crate::disk::{Disk, DiskError};
 use crate::mem_files::{MemFiles, bytes_in, length_in, put_in, read_in};
 use crate::name::Name;
+use std::alloc::{AllocError, Global};
+use std::collections::BTreeMap;
 
 /// A disk in memory that never fails. It tells its files, and its count of faults stands at 0.
 #[derive(Debug, Drop)]
@@ -77,4 +76,6 @@ impl Disk for SureDisk {
     }
 
     ghost reads_an_image = { λ disk. files_read_images disk.files };
+
+    ghost has_short_files = { λ disk. files_are_short disk.files };
 }
