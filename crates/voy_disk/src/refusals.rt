@@ -1,7 +1,6 @@
-use std::alloc::AllocError;
-
 use crate::disk::DiskError;
 use crate::sink::SinkError;
+use std::alloc::AllocError;
 
 impl From<AllocError> for DiskError {
     ghost use Rattle.std.specs.Prelude.{◌≡◌};

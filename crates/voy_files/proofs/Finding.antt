@@ -1,5 +1,5 @@
 -- What the bytes of a line that were read so far are found to be.
-use Rattle.std.proofs.Common.{◌≡◌, ℕ, ◌<◌, ◌≤◌, List, [], ◌∷◌, ◌++◌, length, refl, ap, ◌∙◌, arith, length-append}
+use Rattle.std.proofs.Common.{◌≡◌, ℕ, ◌<◌, ◌≤◌, List, [], ◌∷◌, ◌++◌, length, ap, ◌∙◌, arith, length-append}
 use Rattle.std.proofs.lemmas.List.{append-nil, nil_from_length}
 use Rattle.voy_files.specs.Lines.{lines_of}
 use Rattle.voy_files.specs.LineLaws.{lines_of-line, lines_of-last, begins_line}

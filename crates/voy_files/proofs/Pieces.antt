@@ -1,5 +1,5 @@
 -- Where the first line feed splits bytes, and what is left of a file after a piece of it.
-use Rattle.std.proofs.Common.{◌≡◌, ◌↔◌, ◌⊎◌, inl, inr, ℕ, ◌+◌, ◌-◌, ◌<◌, ◌≤◌, ◌==◌, Bool, true, false, cond, not, List, [], ◌∷◌, ◌++◌, length, take, drop, get_or, Option, Some, None, refl, sym, ap, ◌∙◌, arith, subst, length-append, length-take, length-drop}
+use Rattle.std.proofs.Common.{◌≡◌, ◌↔◌, ◌⊎◌, inl, inr, ℕ, ◌+◌, ◌-◌, ◌<◌, ◌≤◌, ◌==◌, Bool, true, false, cond, not, List, [], ◌∷◌, ◌++◌, length, take, drop, get_or, Some, None, refl, sym, ap, ◌∙◌, arith, subst, length-append, length-take, length-drop}
 use Rattle.std.proofs.Math.Seq.{take-add, take-append_seam}
 use Rattle.std.proofs.lemmas.Bool.Decides.{nat_tests}
 use Rattle.std.proofs.lemmas.List.{drop-drop, drop-take, drop_all, drop_more, get_or-take, get_or_default, length-take-le, take-append-drop, take-append-le, take-take, take_all}
@@ -40,7 +40,7 @@ one_line xs none =
     let past = none_if _ _ none in
     let all : length xs ≤ position_or_len (λ b. b == 10) xs = grind (arith, nat_tests, past) in
     let whole : is_one_line (take (length xs) xs) ≡ true =
-        one_before xs (length xs) (omega arith) (λ j below. fails_before_first (λ b. b == 10) xs j 0 (omega arith)) in
+    one_before xs (length xs) (omega arith) (λ j below. fails_before_first (λ b. b == 10) xs j 0 (omega arith)) in
     subst (λ (ys : List ℕ). is_one_line ys ≡ true) (take_all (length xs) xs (omega arith)) whole
 
 -- a line stays one line with bytes of one line behind it
@@ -54,12 +54,12 @@ pub cut_behind : (bytes : List ℕ) (at n room size : ℕ) (old new behind items
     → items ≡ take size (drop at bytes)
 cut_behind bytes at n room size old new behind items reads kept fits full is counts =
     let sizes : length new ≡ length (take n (drop at bytes)) + (length old - n) =
-        ap length reads ∙ length-append _ _ ∙ ap (λ m. length (take n (drop at bytes)) + m) (length-drop n old) in
+    ap length reads ∙ length-append _ _ ∙ ap (λ m. length (take n (drop at bytes)) + m) (length-drop n old) in
     let read : length (take n (drop at bytes)) ≡ n = omega arith in
     let front : take n new ≡ take n (drop at bytes) =
-        ap (take n) reads ∙ subst (λ (m : ℕ). take m (take n (drop at bytes) ++ drop n old) ≡ take n (drop at bytes)) read (take-append_seam _ _) in
+    ap (take n) reads ∙ subst (λ (m : ℕ). take m (take n (drop at bytes) ++ drop n old) ≡ take n (drop at bytes)) read (take-append_seam _ _) in
     let same : items ≡ take n (drop at bytes) =
-        is ∙ take-take n room (new ++ behind) (omega arith) ∙ take-append-le n new behind (omega arith) ∙ front in
+    is ∙ take-take n room (new ++ behind) (omega arith) ∙ take-append-le n new behind (omega arith) ∙ front in
     let whole : size ≡ n = counts ∙ ap length same ∙ read in
     subst (λ (m : ℕ). items ≡ take m (drop at bytes)) (sym whole) same
 
@@ -70,9 +70,9 @@ piece_and_rest bytes piece at end is within =
     let whole : at + (end - at) ≡ end = omega arith in
     let small : length piece ≤ end - at = omega arith in
     let same : drop at (take end bytes) ≡ take (end - at) (drop at bytes) =
-        subst (λ (n : ℕ). drop at (take n bytes) ≡ take (end - at) (drop at bytes)) whole (drop-take at (end - at) bytes) in
+    subst (λ (n : ℕ). drop at (take n bytes) ≡ take (end - at) (drop at bytes)) whole (drop-take at (end - at) bytes) in
     let front : take (length piece) (drop at (take end bytes)) ≡ piece =
-        ap (take (length piece)) same ∙ take-take (length piece) (end - at) (drop at bytes) small ∙ sym is in
+    ap (take (length piece)) same ∙ take-take (length piece) (end - at) (drop at bytes) small ∙ sym is in
     ap (λ p. p ++ drop (at + length piece) (take end bytes)) (sym front)
     ∙ ap (λ rest. take (length piece) (drop at (take end bytes)) ++ rest) (sym (drop-drop (length piece) at (take end bytes)))
     ∙ take-append-drop (length piece) (drop at (take end bytes))
@@ -93,15 +93,16 @@ some_left held behind from within none =
 -- the bytes from a place on begin with a piece, for which there was room, and which is empty only past the file's end
 pub ends_where : (bytes piece : List ℕ) (at end room : ℕ) → piece ≡ take (length piece) (drop at bytes) → at + length piece ≤ end → 0 < room
     → (length piece ≡ 0 → (room ≡ 0) ⊎ (length bytes ≤ at)) → (length piece ≡ 0) ↔ (drop at (take end bytes) ≡ [])
-ends_where bytes piece at end room is within roomy some =
-    (λ empty. elim (some empty) [ inl full ↦ absurd (omega arith) | inr past ↦ nothing_past bytes at end past ],
-     λ none. let sizes = ap length (piece_and_rest bytes piece at end is within ∙ none) in
-         omega (arith, sizes, length-append piece (drop (at + length piece) (take end bytes))))
+ends_where bytes piece at end room is within roomy some = (
+  λ empty. elim (some empty) [ inl full ↦ absurd (omega arith) | inr past ↦ nothing_past bytes at end past ],
+  λ none. let sizes = ap length (piece_and_rest bytes piece at end is within ∙ none) in
+      omega (arith, sizes, length-append piece (drop (at + length piece) (take end bytes))),
+)
 
--- the bytes so far and the piece read behind them are the file's first bytes
-pub longer_front : (bytes front piece : List ℕ) → front ≡ take (length front) bytes → piece ≡ take (length piece) (drop (length front) bytes)
-    → front ++ piece ≡ take (length (front ++ piece)) bytes
-longer_front bytes front piece is next =
-    let sizes : length (front ++ piece) ≡ length front + length piece = length-append front piece in
-    let more : take (length front + length piece) bytes ≡ take (length front) bytes ++ take (length piece) (drop (length front) bytes) = take-add (length front) (length piece) bytes in
-    ap (λ f. f ++ piece) is ∙ ap (λ p. take (length front) bytes ++ p) next ∙ sym more ∙ ap (λ n. take n bytes) (sym sizes)
+-- the file's first n bytes, with a piece of m bytes that stands behind them
+pub longer_front : (bytes front piece longer : List ℕ) (n m size : ℕ)
+    → front ≡ take n bytes → n ≡ length front → piece ≡ take m (drop n bytes) → m ≡ length piece
+    → longer ≡ front ++ piece → size ≡ length longer → longer ≡ take size bytes
+longer_front bytes front piece longer n m size is counts next more both sized =
+    let sum : n + m ≡ size = omega (arith, ap length both, length-append front piece) in
+    both ∙ ap (λ f. f ++ piece) is ∙ ap (λ p. take n bytes ++ p) next ∙ sym (take-add n m bytes) ∙ ap (λ k. take k bytes) sum

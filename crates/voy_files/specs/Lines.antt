@@ -1,5 +1,5 @@
 -- The lines of a file.
-use Rattle.std.specs.Prelude.{ℕ, Bool, true, false, List, [], ◌∷◌, ◌==◌, not, if◌then◌else◌}
+use Rattle.std.specs.Prelude.{ℕ, Bool, List, [], ◌∷◌, ◌==◌, not, if◌then◌else◌}
 use Rattle.std.specs.List.{list_all}
 
 -- a byte in front of the first line

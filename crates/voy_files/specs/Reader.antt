@@ -1,5 +1,5 @@
 -- What a reader of lines has left, and what it finds.
-use Rattle.std.specs.Prelude.{◌≡◌, ◌≢◌, ◌≤◌, ◌<◌, ◌-◌, ℕ, Bool, true, MatchBool, List, [], ◌∷◌, ◌++◌, length, take, drop}
+use Rattle.std.specs.Prelude.{◌≡◌, ◌≤◌, ◌<◌, ℕ, Bool, true, MatchBool, List, [], ◌∷◌, ◌++◌, length, take, drop}
 use Rattle.voy_disk.specs.Files.{Files, bytes_now}
 use Rattle.voy_files.specs.Lines.{is_one_line, lines_of}
 use Rattle.voy_files.specs.declared.line_reader.Found.{Found}

@@ -1,10 +1,8 @@
 ghost use Rattle.std.specs.Prelude.{◌≡◌, ◌==◌, ◌≤◌, length, drop, position};
 
-use std::alloc::{AllocError, Global};
-
-use voy_disk::{Disk, DiskError, Name};
-
 use crate::piece::{PIECE_BYTES, read_piece, smaller};
+use std::alloc::{AllocError, Global};
+use voy_disk::{Disk, DiskError, Name};
 
 /// The byte that ends a line.
 const LINE_FEED: u8 = 10;

@@ -3,7 +3,6 @@ ghost use Rattle.voy_disk.specs.Faults.{HasCause};
 ghost use Rattle.voy_disk.specs.Files.{Told, bytes_now};
 
 use std::alloc::Global;
-
 use voy_disk::{Disk, DiskError, Name};
 
 /// How many bytes are read from a disk at a time.
@@ -13,7 +12,11 @@ pub const PIECE_BYTES: usize = 65536;
 pub(crate) fn smaller(left: u64, room: usize) -> usize
     ensures { result ≡ min left room }
 {
-    if left < room as u64 { left as usize } else { room }
+    if left < room as u64 {
+        left as usize
+    } else {
+        room
+    }
 }
 
 /// The next bytes of the file from `at`, at most `room`.

@@ -2,14 +2,16 @@ ghost use Rattle.std.specs.Prelude.{◌≡◌, IfOk, MatchOption, None, Some};
 ghost use Rattle.voy_disk.specs.Faults.{HasCause};
 ghost use Rattle.voy_disk.specs.Files.{Told, bytes_now};
 
+use crate::piece::{PIECE_BYTES, read_piece, smaller};
 use std::alloc::Global;
-
 use voy_disk::{Disk, DiskError, Name};
 
-use crate::piece::{PIECE_BYTES, read_piece, smaller};
-
 /// The bytes of a file, whole; `None` exactly where there is no such file. For files that are small.
-pub fn read_file<D: Disk>(alloc: Global, disk: &mut D, name: &Name) -> Result<Option<Vec<u8>>, DiskError>
+pub fn read_file<D: Disk>(
+    alloc: Global,
+    disk: &mut D,
+    name: &Name,
+) -> Result<Option<Vec<u8>>, DiskError>
     ensures whole { IfOk result (λ o. Told (D.files disk.old) (λ fs.
         MatchOption o (fs name.now ≡ None) (λ bytes. bytes.items ≡ bytes_now (fs name.now)))) }
     ensures same { D.files disk.new ≡ D.files disk.old }

@@ -1,4 +1,4 @@
-use Rattle.std.proofs.Common.{◌≡◌, ◌≤◌, ◌-◌, length, take, vec_len}
+use Rattle.std.proofs.Common.{◌≡◌, ◌≤◌, ◌-◌, take, vec_len}
 use Rattle.voy_disk.specs.Files.{Told, bytes_now}
 use Rattle.voy_files.proofs.whole.read_file.Given as goal
 

@@ -11,4 +11,4 @@ returns-then-is_empty c = λ start read.
 pub returns-else-is_empty : goal.returns-else-is_empty
 returns-else-is_empty c = λ start read.
     last_line (line_limit c.args.self.now) start (found_line c.args.self.now) read
-        (omega (arith, c.args.self.now.line.ok.0)) (grind (arith, nat_tests, c.args.self.now.line.ok.0))
+    (omega (arith, c.args.self.now.line.ok.0)) (grind (arith, nat_tests, c.args.self.now.line.ok.0))

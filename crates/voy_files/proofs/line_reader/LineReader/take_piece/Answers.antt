@@ -30,5 +30,6 @@ returns-in_ok-extend_from_slice-in-None-clause-took c =
       rest = (
         sym same,
         drop_all c.len-self.result r.piece.items (omega (arith, r.piece.ok.0)),
-        omega (arith, ap length same, length-drop r.from r.piece.items, r.piece.ok.0));
+        omega (arith, ap length same, length-drop r.from r.piece.items, r.piece.ok.0),
+      );
     }
