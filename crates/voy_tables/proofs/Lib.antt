@@ -3,3 +3,4 @@ pub mod MisfitLemmas
 pub mod PlaceLemmas
 pub mod OrderLemmas
 pub mod TableLemmas
+pub mod SizeLemmas

@@ -1,5 +1,5 @@
 -- The order of keys, and rows that ascend by it.
-use Rattle.std.proofs.Common.{◌≡◌, ℕ, Bool, true, false, ◌&&◌, List, [], ◌∷◌, refl, sym, ap, ◌∙◌, subst, Ordering}
+use Rattle.std.proofs.Common.{◌≡◌, ℕ, Bool, true, false, List, [], ◌∷◌, refl, sym, ap, ◌∙◌, subst, Ordering}
 use Rattle.std.specs.Cmp.{IsTotalOrder}
 use Rattle.std.specs.Cmp.Lexicographic.{lists_ties, lists_total, nat_list_cmp_total, slice_cmp, texts_ties}
 use Rattle.std.specs.List.{list_all}
@@ -47,10 +47,10 @@ list_all-with_row p t row [] new all = and_from _ _ new refl
 list_all-with_row p t row (r ∷ rows) new all =
     by (key_cmp (key_of t row) (key_of t r)) (list_all-with_row p t row rows new (and_parts _ _ all).1)
   where
-  by : (o : Ordering) → list_all p (with_row t row rows) ≡ true → list_all p (put_by o row r rows (with_row t row rows)) ≡ true
-  by Less rest = and_from _ _ new all
-  by Equal rest = and_from _ _ new (and_parts _ _ all).1
-  by Greater rest = and_from _ _ (and_parts _ _ all).0 rest
+    by : (o : Ordering) → list_all p (with_row t row rows) ≡ true → list_all p (put_by o row r rows (with_row t row rows)) ≡ true
+    by Less rest = and_from _ _ new all
+    by Equal rest = and_from _ _ new (and_parts _ _ all).1
+    by Greater rest = and_from _ _ (and_parts _ _ all).0 rest
 
 -- what holds of all rows holds of those that stay
 pub list_all-without_key : (p : List Value → Bool) (t : Table) (key : List (List ℕ)) (rows : List (List Value))
@@ -59,9 +59,9 @@ list_all-without_key p t key [] all = refl
 list_all-without_key p t key (r ∷ rows) all =
     by (same_key (key_of t r) key) (list_all-without_key p t key rows (and_parts _ _ all).1)
   where
-  by : (same : Bool) → list_all p (without_key t key rows) ≡ true → list_all p (if same then rows else r ∷ without_key t key rows) ≡ true
-  by true rest = (and_parts _ _ all).1
-  by false rest = and_from _ _ (and_parts _ _ all).0 rest
+    by : (same : Bool) → list_all p (without_key t key rows) ≡ true → list_all p (if same then rows else r ∷ without_key t key rows) ≡ true
+    by true rest = (and_parts _ _ all).1
+    by false rest = and_from _ _ (and_parts _ _ all).0 rest
 
 -- rows that ascend do so with one more at its place
 pub ascends-with_row : (t : Table) (row : List Value) (rows : List (List Value)) → ascends t rows ≡ true → ascends t (with_row t row rows) ≡ true
@@ -69,18 +69,20 @@ ascends-with_row t row [] up = refl
 ascends-with_row t row (r ∷ rows) up =
     by (key_cmp (key_of t row) (key_of t r)) refl (ascends-with_row t row rows (and_parts _ _ up).1)
   where
-  above : key_cmp (key_of t row) (key_of t r) ≡ Greater → is_below t r row ≡ true
-  above o = ap is_lt (key_order.antisymm (key_of t r) (key_of t row) ∙ ap ordering_reverse o)
-  level : key_cmp (key_of t row) (key_of t r) ≡ Equal → list_all (is_below t row) rows ≡ true
-  level o =
-      let P : List (List ℕ) → Type 0 = λ key. list_all (λ x. is_lt (key_cmp key (key_of t x))) rows ≡ true in
-      subst P (sym (equal_keys _ _ o)) (and_parts _ _ up).0
-  by : (o : Ordering) → key_cmp (key_of t row) (key_of t r) ≡ o → ascends t (with_row t row rows) ≡ true
-      → ascends t (put_by o row r rows (with_row t row rows)) ≡ true
-  by Less o rest =
-      and_from _ _ (and_from _ _ (ap is_lt o) (all_below-trans t row r rows (ap is_lt o) (and_parts _ _ up).0)) up
-  by Equal o rest = and_from _ _ (level o) (and_parts _ _ up).1
-  by Greater o rest = and_from _ _ (list_all-with_row (is_below t r) t row rows (above o) (and_parts _ _ up).0) rest
+    above : key_cmp (key_of t row) (key_of t r) ≡ Greater → is_below t r row ≡ true
+    above o = ap is_lt (key_order.antisymm (key_of t r) (key_of t row) ∙ ap ordering_reverse o)
+
+    level : key_cmp (key_of t row) (key_of t r) ≡ Equal → list_all (is_below t row) rows ≡ true
+    level o =
+        let P : List (List ℕ) → Type 0 = λ key. list_all (λ x. is_lt (key_cmp key (key_of t x))) rows ≡ true in
+        subst P (sym (equal_keys _ _ o)) (and_parts _ _ up).0
+
+    by : (o : Ordering) → key_cmp (key_of t row) (key_of t r) ≡ o → ascends t (with_row t row rows) ≡ true
+        → ascends t (put_by o row r rows (with_row t row rows)) ≡ true
+    by Less o rest =
+        and_from _ _ (and_from _ _ (ap is_lt o) (all_below-trans t row r rows (ap is_lt o) (and_parts _ _ up).0)) up
+    by Equal o rest = and_from _ _ (level o) (and_parts _ _ up).1
+    by Greater o rest = and_from _ _ (list_all-with_row (is_below t r) t row rows (above o) (and_parts _ _ up).0) rest
 
 -- and without one of them
 pub ascends-without_key : (t : Table) (key : List (List ℕ)) (rows : List (List Value)) → ascends t rows ≡ true → ascends t (without_key t key rows) ≡ true
@@ -88,6 +90,6 @@ ascends-without_key t key [] up = refl
 ascends-without_key t key (r ∷ rows) up =
     by (same_key (key_of t r) key) (ascends-without_key t key rows (and_parts _ _ up).1)
   where
-  by : (same : Bool) → ascends t (without_key t key rows) ≡ true → ascends t (if same then rows else r ∷ without_key t key rows) ≡ true
-  by true rest = (and_parts _ _ up).1
-  by false rest = and_from _ _ (list_all-without_key (is_below t r) t key rows (and_parts _ _ up).0) rest
+    by : (same : Bool) → ascends t (without_key t key rows) ≡ true → ascends t (if same then rows else r ∷ without_key t key rows) ≡ true
+    by true rest = (and_parts _ _ up).1
+    by false rest = and_from _ _ (list_all-without_key (is_below t r) t key rows (and_parts _ _ up).0) rest

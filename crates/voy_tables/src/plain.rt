@@ -100,7 +100,11 @@ impl Plain {
         }
         match change {
             Change::Insert { table, after } => self.put(table, after)?,
-            Change::Update { table, before: _before, after } => self.put(table, after)?,
+            Change::Update {
+                table,
+                before: _before,
+                after,
+            } => self.put(table, after)?,
             Change::Delete { table, before } => self.take_out(table, &before),
         }
         Ok(())

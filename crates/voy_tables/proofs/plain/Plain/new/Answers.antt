@@ -1,7 +1,6 @@
-use Rattle.std.proofs.Common.{ap, ◌∙◌}
+use Rattle.std.proofs.Common.{◌∙◌}
 use Rattle.std.proofs.lemmas.List.{take_all}
 use Rattle.voy_tables.proofs.TableLemmas.{are_tables-empty}
-use Rattle.voy_tables.specs.Lists.{empty_lists}
 use Rattle.voy_tables.proofs.plain.Plain.new.Goals as goal
 
 pub invariant_of-result : goal.invariant_of-result

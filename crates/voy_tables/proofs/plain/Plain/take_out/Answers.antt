@@ -1,4 +1,4 @@
-use Rattle.std.proofs.Common.{◌≡◌, true, sym, ap, ◌∙◌}
+use Rattle.std.proofs.Common.{sym, ap, ◌∙◌}
 use Rattle.std.specs.Prelude.{slice_set}
 use Rattle.voy_tables.proofs.TableLemmas.{are_tables-at, are_tables-set, is_table-without_key, lists_after-delete, rows_there, within_lists}
 use Rattle.voy_tables.proofs.plain.Plain.take_out.Goals as goal
@@ -15,8 +15,10 @@ invariant_of-self c =
     let found = sym c.in-Some.ensures.value in
     let stands = c.args.self.now.stands in
     let there = rows_there lists at c.item_mut.result.now (within_lists schema lists at t stands found) c.item_mut.ensures.value in
-    record { stands = are_tables-set schema lists at t c.take_out_row.new.rows stands found
-        (rw c.take_out_row.ensures (is_table-without_key t _ c.item_mut.result.now (rw there at (are_tables-at schema lists at t stands found)))) }
+    record {
+      stands = are_tables-set schema lists at t c.take_out_row.new.rows stands found
+          (rw c.take_out_row.ensures (is_table-without_key t _ c.item_mut.result.now (rw there at (are_tables-at schema lists at t stands found))));
+    }
 
 pub returns-in-Some-clause-lists : goal.returns-in-Some-clause-lists
 returns-in-Some-clause-lists c =
