@@ -4,3 +4,4 @@ pub mod Fields
 pub mod ChangeLine
 pub mod EventLine
 pub mod LawfulEvent
+pub mod EventLaws
