@@ -9,7 +9,7 @@ use Rattle.std.proofs.lemmas.Bool.{and_from, and_parts, leb-true, ltb-true}
 use Rattle.std.proofs.lemmas.Cmp.{nat_list_eq_equiv, lists_equiv}
 use Rattle.std.proofs.lemmas.Slice.Eq.{bytes_eq-Decides}
 use Rattle.serde_json.specs.Data.{Data}
-use Rattle.serde_json.specs.Find.{get}
+use Rattle.serde_json.specs.Find.{as_number, as_u64, get}
 use Rattle.voy_json.specs.Document.{data_of_bytes, has_names, has_only_names, is_object}
 use Rattle.voy_schema.specs.Lawful.{place_of}
 use Rattle.voy_schema.specs.Rows.{is_lawful_row, key_of, text_of, value_at, values_at}
@@ -25,8 +25,8 @@ use Rattle.voy_tables.specs.declared.change.Role.TheVariants as exporter
 use Rattle.voy_event.specs.ChangeLine.{PlacedTable, change_of, has_long_row, known_reading, named_reading, placed, table_named, table_reading, within_limit}
 use Rattle.voy_event.specs.EventLine.{change_event, change_event_names, cutover_event, cutover_names, cutover_vsn, document_reading, from_one, has_exporter, kind_reading, line_reading, max_event_line_bytes, stamped, vsn_at}
 use Rattle.voy_event.specs.Fields.{agrees_at, is_key_of_row, is_null, only_if, row_at, row_of, row_with_key}
-use Rattle.voy_event.specs.LawfulEvent.{IsLawful, IsLawfulFrom}
-use Rattle.voy_event.specs.Words.{event_kind, number_at, role_at, text_at}
+use Rattle.voy_event.specs.LawfulEvent.{IsLawful, IsLawfulChange, IsLawfulFrom}
+use Rattle.voy_event.specs.Words.{event_kind, in_64_bits, number_at, role_at, text_at}
 use Rattle.voy_event.specs.declared.event.Event.{Event}
 use Rattle.voy_event.specs.declared.event.What.{What}
 use Rattle.voy_event.specs.declared.event.What.TheVariants as what
@@ -40,12 +40,12 @@ use Rattle.voy_event.specs.declared.words.Op.TheVariants.{Insert, Update, Delete
 -- ---- tests in front of a reading
 
 -- a reading that is behind a refusal's test is what was read
-past_test : {A : Type 0} (b : Bool) (cause : LineWhy) (r : Result A LineWhy) (a : A) → (if b then Err cause else r) ≡ Ok a → r ≡ Ok a
+pub past_test : {A : Type 0} (b : Bool) (cause : LineWhy) (r : Result A LineWhy) (a : A) → (if b then Err cause else r) ≡ Ok a → r ≡ Ok a
 past_test true cause r a read = cc
 past_test false cause r a read = read
 
 -- the same where the refusal stands last
-before_refusal : {A : Type 0} (b : Bool) (cause : LineWhy) (r : Result A LineWhy) (a : A) → (if b then r else Err cause) ≡ Ok a → (b ≡ true) × (r ≡ Ok a)
+pub before_refusal : {A : Type 0} (b : Bool) (cause : LineWhy) (r : Result A LineWhy) (a : A) → (if b then r else Err cause) ≡ Ok a → (b ≡ true) × (r ≡ Ok a)
 before_refusal true cause r a read = (refl, read)
 before_refusal false cause r a read = cc
 
@@ -142,10 +142,6 @@ table_stands tables names d t read =
 
 -- ---- a change that was read is well formed
 
-pub record IsWellRead (tables : List Table) (c : Change) : Type 0 where
-  pub well_formed : is_well_formed tables c ≡ true
-  pub short : has_long_row c ≡ false
-
 mapped_some : {A B : Type 0} (f : A → B) (o : Option A) (b : B) → option_map f o ≡ Some b → (a : A) × (o ≡ Some a) × (f a ≡ b)
 mapped_some f None b found = cc
 mapped_some f (Some a) b found = (a, refl, cc)
@@ -199,25 +195,34 @@ limited (Some x) c read = by_test (has_long_row x) refl read where
 
 -- a change that was read by the rules that both kinds of line share
 pub change_is_lawful : (tables : List Table) (names : List (List ℕ)) (op : Op) (d : Data) (t : PlacedTable) (c : Change)
-    → table_reading tables names d ≡ Ok t → within_limit (change_of op t d) ≡ Ok c → IsWellRead tables c
+    → table_reading tables names d ≡ Ok t → within_limit (change_of op t d) ≡ Ok c → IsLawfulChange tables c
 change_is_lawful tables names op d t c placed read =
     let parts = limited (change_of op t d) c read in
     record { well_formed = change_is_well_formed tables op t d c (table_stands tables names d t placed) parts.0; short = parts.1 }
 
 -- ---- an event that was read is lawful
 
-from_one_holds : (o : Option ℕ) (vsn : ℕ) → from_one o ≡ Some vsn → (1 ≤ vsn) × (vsn < 2 ^ 64)
-from_one_holds None vsn found = cc
-from_one_holds (Some n) vsn found = by_test (nat_le 1 n && nat_lt n (2 ^ 64)) refl found where
-  by_test : (b : Bool) → (nat_le 1 n && nat_lt n (2 ^ 64)) ≡ b → (if b then Some n else None) ≡ Some vsn → (1 ≤ vsn) × (vsn < 2 ^ 64)
-  by_test true holds same =
-      let here : n ≡ vsn = cc in
-      let parts = and_parts _ _ (subst (λ (m : ℕ). (nat_le 1 m && nat_lt m (2 ^ 64)) ≡ true) here holds) in
-      (leb-true _ _ parts.0, ltb-true _ _ parts.1)
+in_64_bits_holds : (o : Option ℕ) (n : ℕ) → in_64_bits o ≡ Some n → n < 2 ^ 64
+in_64_bits_holds None n found = cc
+in_64_bits_holds (Some m) n found = by_test (nat_lt m (2 ^ 64)) refl found where
+  by_test : (b : Bool) → nat_lt m (2 ^ 64) ≡ b → (if b then Some m else None) ≡ Some n → n < 2 ^ 64
+  by_test true holds same = let here : m ≡ n = cc in subst (λ (k : ℕ). k < 2 ^ 64) here (ltb-true _ _ holds)
   by_test false fails same = cc
 
+from_one_holds : (o : Option ℕ) (vsn : ℕ) → from_one o ≡ Some vsn → (o ≡ Some vsn) × (1 ≤ vsn)
+from_one_holds None vsn found = cc
+from_one_holds (Some n) vsn found = by_test (nat_le 1 n) refl found where
+  by_test : (b : Bool) → nat_le 1 n ≡ b → (if b then Some n else None) ≡ Some vsn → (Some n ≡ Some vsn) × (1 ≤ vsn)
+  by_test true holds same = let here : n ≡ vsn = cc in (same, subst (λ (k : ℕ). 1 ≤ k) here (leb-true _ _ holds))
+  by_test false fails same = cc
+
+vsn_holds : (d : Data) (vsn : ℕ) → vsn_at d ≡ Some vsn → (1 ≤ vsn) × (vsn < 2 ^ 64)
+vsn_holds d vsn found =
+    let number = from_one_holds (number_at (codes "vsn") d) vsn found in
+    (number.1, in_64_bits_holds (option_and_then as_u64 (option_and_then as_number (get (codes "vsn") d))) vsn number.0)
+
 stamped_is_lawful : (tables : List Table) (vsn : Option ℕ) (role : Option Role) (read : Result Change LineWhy) (e : Event)
-    → ((n : ℕ) → vsn ≡ Some n → (1 ≤ n) × (n < 2 ^ 64)) → ((c : Change) → read ≡ Ok c → IsWellRead tables c)
+    → ((n : ℕ) → vsn ≡ Some n → (1 ≤ n) × (n < 2 ^ 64)) → ((c : Change) → read ≡ Ok c → IsLawfulChange tables c)
     → stamped vsn role read ≡ Ok e → IsLawful tables e
 stamped_is_lawful tables None role read e numbered well made = cc
 stamped_is_lawful tables (Some n) None read e numbered well made = cc
@@ -226,15 +231,14 @@ stamped_is_lawful tables (Some n) (Some role) (Ok c) e numbered well made =
     let event : Event = record { vsn = n; role = role; what = what.Change c } in
     let same : event ≡ e = cc in
     let range = numbered n refl in
-    let change = well c refl in
-    subst (IsLawful tables) same (record { from_one = range.0; fits = range.1; what = (change.well_formed, change.short) })
+    subst (IsLawful tables) same (record { from_one = range.0; fits = range.1; what = well c refl })
 
 change_event_is_lawful : (tables : List Table) (op : Op) (d : Data) (t : Result PlacedTable LineWhy) (e : Event)
     → table_reading tables change_event_names d ≡ t → change_event op d t ≡ Ok e → IsLawful tables e
 change_event_is_lawful tables op d (Err cause) e placed made = cc
 change_event_is_lawful tables op d (Ok t) e placed made =
     stamped_is_lawful tables (vsn_at d) (role_at d) (within_limit (change_of op t d)) e
-    (from_one_holds (number_at (codes "vsn") d)) (λ c read. change_is_lawful tables change_event_names op d t c placed read) made
+    (vsn_holds d) (λ c read. change_is_lawful tables change_event_names op d t c placed read) made
 
 cutover_vsn_holds : (role : Role) (d : Data) (n : ℕ) → cutover_vsn role d ≡ Ok n → (1 ≤ n) × (n < 2 ^ 64)
 cutover_vsn_holds role d n read =
@@ -242,7 +246,7 @@ cutover_vsn_holds role d n read =
     let known = past_test (not (has_names cutover_names d)) why.Missing (if not (has_only_names cutover_names d) then Err why.Unknown else last) n read in
     let named = before_refusal (has_exporter role d) why.BadValue (ok_or (vsn_at d) why.BadValue) n
         (past_test (not (has_only_names cutover_names d)) why.Unknown last n known) in
-    from_one_holds (number_at (codes "vsn") d) n (some_since (vsn_at d) named.1) where
+    vsn_holds d n (some_since (vsn_at d) named.1) where
   some_since : (o : Option ℕ) → ok_or o why.BadValue ≡ Ok n → o ≡ Some n
   some_since None read = cc
   some_since (Some m) read = cc

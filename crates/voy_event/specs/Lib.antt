@@ -5,3 +5,5 @@ pub mod ChangeLine
 pub mod EventLine
 pub mod LawfulEvent
 pub mod EventLaws
+pub mod RecordedLine
+pub mod RecordedLaws

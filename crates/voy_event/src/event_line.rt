@@ -1,4 +1,4 @@
-ghost use Rattle.std.specs.Prelude.{◌≡◌, IfOk, IfErr};
+ghost use Rattle.std.specs.Prelude.{◌≡◌, Some, IfOk, IfErr};
 ghost use Rattle.serde_json.specs.View.{view};
 ghost use Rattle.voy_event.specs.EventLine.{change_event, change_event_names, cutover_vsn, document_reading, has_exporter, line_reading, vsn_at};
 ghost use Rattle.voy_event.specs.ChangeLine.{table_reading};
