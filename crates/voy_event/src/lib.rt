@@ -18,6 +18,9 @@ mod recorded_line;
 mod stand_in;
 mod words;
 
+#[cfg(test)]
+mod tests;
+
 pub use event::{Event, What};
 pub use event_line::read_line;
 pub use limits::{MAX_EVENT_LINE_BYTES, MAX_RECORDED_LINE_BYTES};
