@@ -6,6 +6,14 @@ use std::alloc::{AllocError, Global};
 use voy_schema::{Column, Copies, Items, Kind, Row, Schema, Table, Text, Value};
 use voy_tables::{Change, Role};
 
+/// A line, a part of it with what stands in its place, and what is read.
+pub(super) type Case = (
+    &'static str,
+    &'static str,
+    &'static str,
+    &'static str,
+);
+
 /// `public.users` with a bigint key `id` and a text `email`, and `shop.pairs` with the key `b`, `a`.
 pub(super) fn schema(alloc: Global) -> Result<Option<Schema>, AllocError> {
     let mut tables = Items::new(alloc);
