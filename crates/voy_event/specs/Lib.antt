@@ -4,3 +4,6 @@ pub mod Fields
 pub mod ChangeLine
 pub mod EventLine
 pub mod LawfulEvent
+pub mod EventLaws
+pub mod RecordedLine
+pub mod RecordedLaws
