@@ -1,9 +1,9 @@
 -- How far a reader has come with a line, before and after a piece of it.
-use Rattle.std.proofs.Common.{◌≡◌, ℕ, ◌<◌, Bool, true, false, MatchBool, List, [], ◌∷◌, ◌++◌, length, take, drop, refl, sym, ap, ◌∙◌, arith, length-append}
+use Rattle.std.proofs.Common.{◌≡◌, ℕ, ◌+◌, ◌-◌, ◌<◌, ◌≤◌, Bool, true, false, MatchBool, List, [], ◌∷◌, ◌++◌, length, take, drop, refl, sym, ap, ◌∙◌, arith, length-append}
 use Rattle.std.proofs.lemmas.List.{append-nil, append_assoc}
 use Rattle.voy_disk.specs.Files.{Files, bytes_now}
 use Rattle.voy_files.specs.Lines.{is_one_line}
-use Rattle.voy_files.specs.Reader.{IsRead, IsSameFile, TakesPiece, found_line, held, unread}
+use Rattle.voy_files.specs.Reader.{IsRead, IsSameFile, TakesPiece, bytes_left, found_line, held, unread}
 use Rattle.voy_files.specs.declared.line_reader.LineReader.{LineReader}
 use Rattle.voy_files.proofs.Pieces.{is_one_line-append}
 
@@ -63,3 +63,15 @@ pub gets_longer : (ended : Bool) (old new : LineReader) → TakesPiece ended old
 gets_longer ended old new took is =
     let all = at_false ended _ ((held old ≡ took.bytes) × (held new ≡ []) × (0 < length took.bytes)) is took.rest in
     omega (arith, ap length took.line, length-append (found_line old) took.bytes, all.2)
+
+-- the bytes behind the piece are as many as before
+as_many_behind : (old new : LineReader) → IsSameFile old new → new.end - new.at ≡ old.end - old.at
+as_many_behind old new same = rw (same.end, same.at) refl
+
+-- bytes of a piece that stand behind the line are no longer left
+pub fewer_left : (ended : Bool) (old new : LineReader) → TakesPiece ended old new → IsSameFile old new → ended ≡ false
+    → bytes_left new + length (found_line new) ≤ bytes_left old + length (found_line old)
+fewer_left ended old new took same is =
+    let all = at_false ended _ ((held old ≡ took.bytes) × (held new ≡ []) × (0 < length took.bytes)) is took.rest in
+    let longer : length (found_line new) ≡ length (found_line old) + length took.bytes = ap length took.line ∙ length-append (found_line old) took.bytes in
+    omega (arith, longer, ap length all.0, ap length all.1, as_many_behind old new same)

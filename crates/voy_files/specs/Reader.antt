@@ -1,5 +1,5 @@
 -- What a reader of lines has left, and what it finds.
-use Rattle.std.specs.Prelude.{◌≡◌, ◌≤◌, ◌<◌, ℕ, Bool, true, MatchBool, List, [], ◌∷◌, ◌++◌, length, take, drop}
+use Rattle.std.specs.Prelude.{◌≡◌, ◌≤◌, ◌<◌, ◌+◌, ◌-◌, ℕ, Bool, true, MatchBool, List, [], ◌∷◌, ◌++◌, length, take, drop}
 use Rattle.voy_disk.specs.Files.{Files, bytes_now}
 use Rattle.voy_files.specs.Lines.{is_one_line, lines_of}
 use Rattle.voy_files.specs.declared.line_reader.Found.{Found}
@@ -21,6 +21,10 @@ held r = drop r.from r.piece.items
 -- bytes of the file that the reader has not given yet
 abbrev pub unread : LineReader → Files → List ℕ
 unread r files = held r ++ drop r.at (take r.end (bytes_now (files r.name)))
+
+-- at most how many bytes are left to give
+abbrev pub bytes_left : LineReader → ℕ
+bytes_left r = length (held r) + (r.end - r.at)
 
 -- what a reader found in front of the bytes that were left, with the limit and the line that it gives
 abbrev pub Finds : Found → ℕ → List ℕ → List ℕ → List ℕ → Type 0

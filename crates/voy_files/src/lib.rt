@@ -8,6 +8,8 @@
 
 mod line_reader;
 mod piece;
+#[cfg(test)]
+mod tests;
 mod whole;
 
 pub use line_reader::{Found, LineReader};

@@ -37,10 +37,10 @@ pub struct LineReader {
 }
 
 impl LineReader {
-    ghost use Rattle.std.specs.Prelude.{◌≡◌, ◌<◌, ◌≤◌, ◌↔◌, ℕ, List, [], ◌∷◌, vec_len, IsTrue, IsFalse, IfOk, IfSome, MatchOption};
+    ghost use Rattle.std.specs.Prelude.{◌≡◌, ◌<◌, ◌≤◌, ◌^◌, ◌↔◌, ℕ, List, [], ◌∷◌, length, vec_len, IsTrue, IsFalse, IfOk, IfSome, MatchOption};
     ghost use Rattle.voy_disk.specs.Faults.{HasCause};
     ghost use Rattle.voy_disk.specs.Files.{Told, bytes_now};
-    ghost use Rattle.voy_files.specs.Reader.{Finds, IsRead, IsSameFile, TakesPiece, found_line, line_limit, unread};
+    ghost use Rattle.voy_files.specs.Reader.{Finds, IsRead, IsSameFile, TakesPiece, bytes_left, found_line, held, line_limit, unread};
 
     /// A reader of the file's lines, of at most `limit` bytes each; `None` exactly where there is no such
     /// file.
@@ -53,6 +53,7 @@ impl LineReader {
         ensures absent { IfOk result (λ o. Told (D.files disk.old) (λ fs.
             MatchOption o (fs name ≡ None) (λ r. unread r fs ≡ bytes_now (fs name)))) }
         ensures limit { IfOk result (λ o. IfSome o (λ r. line_limit r ≡ limit)) }
+        ensures few { IfOk result (λ o. IfSome o (λ r. bytes_left r < 2 ^ 63)) }
         ensures same { D.files disk.new ≡ D.files disk.old }
         ensures cause { HasCause DiskError.Failed (D.faults disk.old) (D.faults disk.new) result }
         ensures lender { D.lender disk.new ≡ D.lender disk.old }
@@ -83,6 +84,7 @@ impl LineReader {
     pub fn next<D: Disk>(&mut self, disk: &mut D) -> Result<Found, DiskError>
         ensures found { IfOk result (λ found. Told (D.files disk.old) (λ fs.
             Finds found (line_limit self.old) (found_line self.new) (unread self.old fs) (unread self.new fs))) }
+        ensures shrinks { IfOk result (λ found. found ≡ Found.Line → bytes_left self.new < bytes_left self.old) }
         ensures limit { line_limit self.new ≡ line_limit self.old }
         ensures same { D.files disk.new ≡ D.files disk.old }
         ensures cause { HasCause DiskError.Failed (D.faults disk.old) (D.faults disk.new) result }
@@ -103,7 +105,8 @@ impl LineReader {
     /// Whether no byte is left. It reads the next piece where the one at hand is used up.
     pub fn is_at_end<D: Disk>(&mut self, disk: &mut D) -> Result<bool, DiskError>
         ensures left { IfOk result (λ end. Told (D.files disk.old) (λ fs. IsTrue end ↔ (unread self.old fs ≡ []))) }
-        ensures held { IfOk result (λ end. IsFalse end → self.new.from < vec_len self.new.piece) }
+        ensures held { IfOk result (λ end. IsFalse end → 0 < length (held self.new)) }
+        ensures fewer { IfOk result (λ end. bytes_left self.new ≤ bytes_left self.old) }
         ensures unread { IfOk result (λ end. Told (D.files disk.old) (λ fs. unread self.new fs ≡ unread self.old fs)) }
         ensures line { found_line self.new ≡ found_line self.old }
         ensures limit { line_limit self.new ≡ line_limit self.old }
@@ -130,7 +133,7 @@ impl LineReader {
     /// Moves bytes of the piece behind the line's front: those up to a line feed, which is dropped, or all.
     /// Whether there was a line feed.
     fn take_piece(&mut self) -> Result<bool, AllocError>
-        requires { self.old.from < vec_len self.old.piece }
+        requires { 0 < length (held self.old) }
         ensures took { IfOk result (λ ended. TakesPiece ended self.old self.new) }
         ensures file { IsSameFile self.old self.new }
     {
@@ -164,8 +167,9 @@ impl LineReader {
     /// What the line is that the file's end ended.
     fn last_found(&self) -> Found
         requires { vec_len self.now.line ≤ line_limit self.now }
-        ensures { (start : List ℕ) → IsRead start (found_line self.now) [] →
+        ensures finds { (start : List ℕ) → IsRead start (found_line self.now) [] →
             Finds result (line_limit self.now) (found_line self.now) start [] }
+        ensures some { result ≡ Found.Line → 0 < length (found_line self.now) }
     {
         if self.line.is_empty() {
             Found::End

@@ -1,7 +1,7 @@
-use Rattle.std.proofs.Common.{arith, ◌≡◌, ◌∙◌, sym, [], refl}
+use Rattle.std.proofs.Common.{arith, ◌≡◌, ◌∙◌, ap, sym, [], length, refl}
 use Rattle.voy_files.specs.Reader.{found_line, line_limit, unread}
 use Rattle.voy_files.proofs.Finding.{finds_with, long_line}
-use Rattle.voy_files.proofs.Reading.{still_read, reads_to_feed, reads_on}
+use Rattle.voy_files.proofs.Reading.{still_read, reads_to_feed, reads_on, fewer_left}
 use Rattle.voy_files.proofs.Told.{told_at, told_from}
 use Rattle.voy_files.proofs.line_reader.LineReader.next.Goals as goal
 
@@ -18,7 +18,7 @@ returns-then-branch-clause-found g c =
     let none : unread was fs ≡ [] = left.0 c.if-branch.true in
     finds_with c.last_found.result (line_limit reader) (line_limit first) (found_line reader) (unread first fs) [] (unread reader fs)
     (sym (c.in_ok-is_at_end.ensures.limit ∙ c.loop-self.invariant.limit)) (kept ∙ none)
-    (c.last_found.ensures (unread first fs)
+    (c.last_found.ensures.finds (unread first fs)
     (still_read (unread first fs) (found_line was) (found_line reader) (unread was fs) [] c.in_ok-is_at_end.ensures.line (sym none) so_far)))
 
 pub returns-then-branch-2-clause-found : goal.returns-then-branch-2-clause-found
@@ -53,6 +53,7 @@ loop-self-init g c = record {
       still_read (unread c.args.self.now fs) [] c.clear.new.self.items (unread c.args.self.now fs) (unread c.args.self.now fs)
       c.clear.ensures.items refl (record { split = refl; one = refl }));
   same = refl;
+  fewer = omega (arith, ap length c.clear.ensures.items);
   limit = refl;
   later = omega arith;
   lender = refl;
@@ -74,6 +75,13 @@ loop-self-preserved g c =
           reads_on fs (unread first fs) c.in_ok-take_piece.field-0 reader after begun
           c.in_ok-take_piece.ensures.took c.in_ok-take_piece.ensures.file c.if-branch-2.false);
       same = c.in_ok-is_at_end.ensures.same ∙ c.loop-self.invariant.same;
+      fewer = omega (
+        arith,
+        c.loop-self.invariant.fewer,
+        c.in_ok-is_at_end.ensures.fewer,
+        ap length c.in_ok-is_at_end.ensures.line,
+        fewer_left c.in_ok-take_piece.field-0 reader after c.in_ok-take_piece.ensures.took c.in_ok-take_piece.ensures.file c.if-branch-2.false,
+      );
       limit = c.in_ok-take_piece.ensures.file.limit ∙ c.in_ok-is_at_end.ensures.limit ∙ c.loop-self.invariant.limit;
       later = omega (arith, c.in_ok-is_at_end.ensures.cause.later);
       lender = c.in_ok-is_at_end.ensures.lender ∙ c.loop-self.invariant.lender;
