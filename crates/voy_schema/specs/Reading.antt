@@ -116,13 +116,15 @@ broken_rule earlier s =
     else if not (has_whole_keys s) then Some why.NoKey
     else None
 
+-- what stands where no rule is broken
+abbrev pub unless : {A : Type 0} → Option SchemaWhy → A → Result A SchemaWhy
+unless (Some w) x = Err w
+unless None x = Ok x
+
 -- a table behind these ones, or the first rule that it breaks
 abbrev pub table_reading : List Table → Option StatedTable → Result Table SchemaWhy
 table_reading earlier None = Err why.Shape
-table_reading earlier (Some s) = unless (broken_rule earlier s) where
-  unless : Option SchemaWhy → Result Table SchemaWhy
-  unless (Some w) = Err w
-  unless None = Ok (table_of s)
+table_reading earlier (Some s) = unless (broken_rule earlier s) (table_of s)
 
 -- the tables so far with one more, or the number of the one that breaks a rule, from 1
 abbrev pub with_table : List Table → Result Table SchemaWhy → Result (List Table) (ℕ × SchemaWhy)
