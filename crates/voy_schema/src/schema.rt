@@ -46,7 +46,8 @@ impl Schema {
 
     /// The place of the table with these names, from 0. `None` where there is none.
     pub fn find(&self, schema_name: &str, table_name: &str) -> Option<u32>
-        ensures { result ≡ place_of schema_name.now table_name.now self.now.tables }
+        ensures value { result ≡ place_of schema_name.now table_name.now self.now.tables }
+        ensures within { IfSome result (λ place. place < length self.now.tables) }
     {
         for (place, table) in self.tables.as_slice().iter().enumerate() {
             if table.is_named(schema_name, table_name) {
