@@ -35,3 +35,6 @@ pub use table::{Column, Columns, Kind, Places, Table, Tables, UniqueKey, UniqueK
 pub use text::Text;
 pub use value::{Bytes, Key, Row, Rows, Value};
 pub use why::{SchemaError, SchemaWhy};
+
+#[cfg(test)]
+mod tests;
