@@ -47,7 +47,20 @@ fn table_of<'a>(schema: &'a Schema, change: &Change) -> &'a Table
     requires { IsWritableChange schema.now.tables change.now }
     ensures { slice_get schema.now.tables (table_of change.now) ≡ Some result.now }
 {
-    &schema.tables.as_slice()[change.table() as usize]
+    match schema.tables.get(place_of_table(change) as usize) {
+        Some(table) => table,
+        None => unreachable!(),
+    }
+}
+
+fn place_of_table(change: &Change) -> u32
+    ensures { result ≡ table_of change.now }
+{
+    match change {
+        Change::Insert { table, .. } => *table,
+        Change::Update { table, .. } => *table,
+        Change::Delete { table, .. } => *table,
+    }
 }
 
 #[tactic(auto, unfolding(crate::specs::LineText::change_data))]
