@@ -1,5 +1,5 @@
 -- The files of a disk, and what a call reads of one.
-use Rattle.std.specs.Prelude.{◌≡◌, ◌≢◌, ◌≤◌, ◌⊎◌, ℕ, List, [], ◌++◌, length, take, drop, Option, Some, None, IfSome}
+use Rattle.std.specs.Prelude.{◌≡◌, ◌≢◌, ◌≤◌, ◌<◌, ◌^◌, ◌⊎◌, ℕ, List, [], ◌++◌, length, take, drop, Option, Some, None, IfSome}
 use Rattle.voy_disk.specs.File.{File, IsImage, settled}
 
 -- the file of each name, if there is one
@@ -32,6 +32,10 @@ NothingToRead bytes at buffer = (length buffer ≡ 0) ⊎ (length bytes ≤ at)
 -- the bytes that each file reads now are one of its images
 abbrev pub ReadsImages : Files → Type 0
 ReadsImages files = (name : List ℕ) → IfSome (files name) (λ file. IsImage file file.now)
+
+-- each file reads fewer than 2 ^ 63 bytes
+abbrev pub AreShort : Files → Type 0
+AreShort files = (name : List ℕ) → IfSome (files name) (λ file. length file.now < 2 ^ 63)
 
 -- the file has exactly these bytes, all safe, and every other file is as before
 pub record Puts (name bytes : List ℕ) (old new : Files) : Type 0 where

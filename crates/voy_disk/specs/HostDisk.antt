@@ -1,5 +1,5 @@
 -- What contracts see of a real folder.
-use Rattle.std.specs.Prelude.{◌≡◌, ℕ, List, ◌++◌, ◌∷◌, string_bytes}
+use Rattle.std.specs.Prelude.{ℕ, List, ◌++◌, ◌∷◌, string_bytes}
 use Rattle.voy_disk.specs.declared.host_disk.HostDisk.{HostDisk}
 
 module _ {R : Type 0} where

@@ -1,19 +1,30 @@
 -- The files of a disk in memory.
-use Rattle.std.specs.Prelude.{List, ℕ, String, Option, Some, None, IfSome}
+use Rattle.std.specs.Prelude.{◌<◌, ◌^◌, ℕ, List, String, Option, Some, None, IfSome, length}
+use Rattle.std.proofs.Common.{arith}
 use Rattle.std.specs.BTreeMap.{BTreeMap, get_by_text}
 use Rattle.std.specs.Option.{option_map}
 use denote.Ref.{Bor}
 use Rattle.voy_disk.specs.declared.file.MemFile.{MemFile}
 use Rattle.voy_disk.specs.File.{File, IsImage}
-use Rattle.voy_disk.specs.Files.{Files, ReadsImages}
+use Rattle.voy_disk.specs.Files.{Files, ReadsImages, AreShort}
+
+-- the bytes that a lent slice shows, if one is lent
+abbrev pub shown : Option (Bor (List ℕ)) → Option (List ℕ)
+shown bytes = option_map (λ slice. slice.now) bytes
 
 -- what a file in memory reads now, its safe bytes and its touched ranges
 abbrev pub file_of : MemFile → File
 file_of file = record { now = file.bytes.items; safe = file.safe.items; touched = file.touched.items }
 
+-- what was found reads one of its images
 found_reads_an_image : (found : Option MemFile) → IfSome (option_map file_of found) (λ file. IsImage file file.now)
 found_reads_an_image None = tt
 found_reads_an_image (Some file) = file.reads
+
+-- what was found is no longer than a vector can be
+found_is_short : (found : Option MemFile) → IfSome (option_map file_of found) (λ file. length file.now < 2 ^ 63)
+found_is_short None = tt
+found_is_short (Some file) = omega (arith, file.bytes.ok, file.bytes.small)
 
 module _ {Y : Type 0} where
   -- the file that the map has at the name
@@ -24,6 +35,6 @@ module _ {Y : Type 0} where
   pub files_read_images : (map : BTreeMap (String Y) MemFile) → ReadsImages (files_of map)
   files_read_images map name = found_reads_an_image (get_by_text map name)
 
--- the bytes that a lent slice shows, if one is lent
-abbrev pub shown : Option (Bor (List ℕ)) → Option (List ℕ)
-shown bytes = option_map (λ slice. slice.now) bytes
+  -- a file in memory is no longer than a vector can be
+  pub files_are_short : (map : BTreeMap (String Y) MemFile) → AreShort (files_of map)
+  files_are_short map name = found_is_short (get_by_text map name)

@@ -1,5 +1,5 @@
 -- Which calls of a disk in memory fail.
-use Rattle.std.specs.Prelude.{ℕ, Bool, ◌==◌, ◌&&◌, ◌||◌, not, nat_le, nat_lt}
+use Rattle.std.specs.Prelude.{ℕ, Bool, ◌==◌, ◌&&◌, ◌||◌, nat_le, nat_lt}
 use Rattle.std.specs.List.{list_any}
 use Rattle.voy_disk.specs.declared.plan.FaultPlan.{FaultPlan}
 

@@ -1,7 +1,7 @@
 ghost use base.Fml.{GName};
 ghost use Rattle.std.specs.Prelude.{◌≡◌, ◌≤◌, ◌<◌, ◌^◌, ◌↔◌, ℕ, List, ◌∷◌, Option, length, IfOk, IfSome};
 ghost use Rattle.voy_disk.specs.Faults.{HasCause};
-ghost use Rattle.voy_disk.specs.Files.{Files, Told, length_of, bytes_now, Reads, NothingToRead, ReadsImages};
+ghost use Rattle.voy_disk.specs.Files.{Files, Told, length_of, bytes_now, Reads, NothingToRead, ReadsImages, AreShort};
 
 use crate::name::Name;
 
@@ -50,6 +50,9 @@ pub trait Disk {
 
     /// The bytes that a file reads now are one of its images.
     ghost reads_an_image: { (disk : Self) → Told (files disk) ReadsImages };
+
+    /// No file is longer than a vector of bytes can be.
+    ghost has_short_files: { (disk : Self) → Told (files disk) AreShort };
 }
 
 impl<D: Disk> Disk for &mut D {
@@ -68,4 +71,6 @@ impl<D: Disk> Disk for &mut D {
     }
 
     ghost reads_an_image = { λ disk. D.reads_an_image disk.now };
+
+    ghost has_short_files = { λ disk. D.has_short_files disk.now };
 }

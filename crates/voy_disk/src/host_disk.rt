@@ -2,13 +2,12 @@ ghost use base.Fml.{GName};
 ghost use Rattle.std.specs.Prelude.{◌≡◌, ◌≤◌, ◌<◌, ◌^◌, ℕ, [], None, length, IfOk, IfSome, string_bytes};
 ghost use Rattle.voy_disk.specs.Faults.{HasCause, Rose};
 
+use crate::disk::{Disk, DiskError};
+use crate::name::Name;
 use std::alloc::{AllocError, Global};
 use std::io;
 use std::io::{ErrorKind, Read, Seek, SeekFrom};
 use std::rt::Files;
-
-use crate::disk::{Disk, DiskError};
-use crate::name::Name;
 
 /// The greatest length of a file on a disk: that of a vector of bytes. A longer one is a fault.
 const MAX_FILE_BYTES: u64 = 0x7fff_ffff_ffff_ffff;
@@ -108,6 +107,8 @@ impl<R: Files + Drop> Disk for HostDisk<R> {
     }
 
     ghost reads_an_image = { λ _. tt };
+
+    ghost has_short_files = { λ _. tt };
 }
 
 // A file that is open for reading, and its length in bytes.

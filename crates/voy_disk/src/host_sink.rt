@@ -1,10 +1,9 @@
 ghost use Rattle.std.specs.Prelude.{◌≡◌, ◌≤◌, ℕ, None};
 ghost use Rattle.voy_disk.specs.Faults.{Rose};
 
+use crate::sink::{Sink, SinkError};
 use std::io::Print;
 use std::rt::{Stderr, Stdout};
-
-use crate::sink::{Sink, SinkError};
 
 /// A standard stream of the process. It tells nothing of what was written to it; that the stream
 /// shows it is trusted.

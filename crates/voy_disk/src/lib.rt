@@ -1,4 +1,20 @@
-//! Disks.
+//! The outside of a move: the files that it reads and writes, and the streams that it prints to.
+//!
+//! All other crates reach files through the trait `Disk` and print through the trait `Sink`. So they
+//! run alike over disks in memory, which fail where a test wants it, and over real folders.
+//!
+//! A disk that tells its files to contracts has for each name a `File` of `specs/File.antt`: the bytes
+//! that read now, the bytes that are safe, and the ranges touched since the last sync. What a stop may
+//! leave of it are its images (`IsImage`). A disk that does not tell them is safe to use, and nothing
+//! is said of what it reads.
+//!
+//! The clause to know is `cause`, which each call of both traits has: the call answers `Failed` only
+//! where the count of faults of its disk or sink rose. After `NoMemory` nothing changed.
+//!
+//! - `MemDisk` fails by a `FaultPlan`, `SureDisk` never, and `HostDisk` is a real folder.
+//! - `MemSink` keeps what is written to it, and `HostSink` is a standard stream.
+//! - `write_all` writes a whole text to a sink.
+//! - `Place` has the four disks of a move. A file on a disk goes by its `Name`.
 #![tactic(auto)]
 
 mod disk;
@@ -12,8 +28,11 @@ mod name;
 mod numbers;
 mod place;
 mod plan;
+mod refusals;
 mod sink;
 mod sure_disk;
+#[cfg(test)]
+mod tests;
 mod writing;
 
 pub use disk::{Disk, DiskError};

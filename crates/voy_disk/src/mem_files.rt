@@ -3,11 +3,10 @@ ghost use Rattle.std.specs.Option.{option_map};
 ghost use Rattle.voy_disk.specs.Files.{Puts, length_of, bytes_now, Reads, NothingToRead};
 ghost use Rattle.voy_disk.specs.MemFiles.{files_of, shown};
 
-use std::alloc::{AllocError, Global};
-use std::collections::BTreeMap;
-
 use crate::file::MemFile;
 use crate::name::Name;
+use std::alloc::{AllocError, Global};
+use std::collections::BTreeMap;
 
 // The files of a disk in memory, by their names.
 pub(crate) type MemFiles = BTreeMap<String, MemFile>;

@@ -2,9 +2,8 @@ ghost use Rattle.std.specs.Prelude.{◌≡◌, ◌≤◌, ◌<◌, ◌↔◌, �
 ghost use Rattle.voy_disk.specs.Faults.{HasCause, count_after};
 ghost use Rattle.voy_disk.specs.Written.{Writes};
 
-use std::alloc::Global;
-
 use crate::sink::{Sink, SinkError};
+use std::alloc::Global;
 
 /// A sink in memory that fails from a call on. It tells what was written to it.
 ///

@@ -1,8 +1,7 @@
 ghost use Rattle.std.specs.Prelude.{◌≡◌, [], ◌≤◌};
 
-use std::alloc::Global;
-
 use crate::numbers::Numbers;
+use std::alloc::Global;
 
 /// Which calls of a `MemDisk` fail, and what a failed call leaves. Calls are counted from 1.
 #[derive(Debug, Drop)]

@@ -1,15 +1,14 @@
 ghost use base.Fml.{GName};
-ghost use Rattle.std.specs.Prelude.{◌≡◌, ◌≤◌, ◌<◌, ◌^◌, ◌↔◌, ℕ, [], Some, None, length, IfOk, IfSome, OnOk, OnErr, IsErrOf};
+ghost use Rattle.std.specs.Prelude.{◌≡◌, ◌≤◌, ◌<◌, ◌^◌, ◌↔◌, ℕ, [], Some, None, length, IfOk, IfSome, OnOk, OnErr, IsOk};
 ghost use Rattle.std.specs.Option.{option_map};
 ghost use Rattle.voy_disk.specs.Files.{Files, Told, Puts, length_of, bytes_now, Reads, NothingToRead};
-ghost use Rattle.voy_disk.specs.MemFiles.{shown, files_read_images};
-
-use std::alloc::{AllocError, Global};
-use std::collections::BTreeMap;
+ghost use Rattle.voy_disk.specs.MemFiles.{shown, files_read_images, files_are_short};
 
 use crate::disk::{Disk, DiskError};
 use crate::mem_files::{MemFiles, bytes_in, length_in, put_in, read_in};
 use crate::name::Name;
+use std::alloc::{AllocError, Global};
+use std::collections::BTreeMap;
 
 /// A disk in memory that never fails. It tells its files, and its count of faults stands at 0.
 #[derive(Debug, Drop)]
@@ -61,7 +60,7 @@ impl Disk for SureDisk {
         ensures length { IfOk result (λ n. n ≡ length_of (sure_disk_files self.old name.now)) }
         ensures short { IfOk result (λ n. IfSome n (λ bytes. bytes < 2 ^ 63)) }
         ensures same { sure_disk_files self.new ≡ sure_disk_files self.old }
-        ensures sure { ¬ IsErrOf result DiskError.Failed }
+        ensures sure { IsOk result }
     {
         Ok(length_in(&self.files, name))
     }
@@ -71,10 +70,12 @@ impl Disk for SureDisk {
         ensures bytes { IfOk result (λ n. Reads (bytes_now (sure_disk_files self.old name.now)) at n into.old into.new) }
         ensures some { IfOk result (λ n. (n ≡ 0) ↔ NothingToRead (bytes_now (sure_disk_files self.old name.now)) at into.old) }
         ensures same { sure_disk_files self.new ≡ sure_disk_files self.old }
-        ensures sure { ¬ IsErrOf result DiskError.Failed }
+        ensures sure { IsOk result }
     {
         Ok(read_in(&self.files, name, at, into))
     }
 
     ghost reads_an_image = { λ disk. files_read_images disk.files };
+
+    ghost has_short_files = { λ disk. files_are_short disk.files };
 }

@@ -7,6 +7,12 @@ use Rattle.voy_tables.specs.declared.change.Change.{Change}
 use Rattle.voy_tables.specs.declared.change.Change.TheVariants.{Insert, Update, Delete}
 use Rattle.voy_tables.specs.Keys.{same_key}
 
+-- the place of the change's table in the schema
+abbrev pub table_of : Change → ℕ
+table_of (Insert table after) = table
+table_of (Update table before after) = table
+table_of (Delete table before) = table
+
 -- which row: its table's place in the schema, and its key
 pub record RowId : Type 0 where
   pub table : ℕ

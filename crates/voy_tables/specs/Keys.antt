@@ -7,6 +7,11 @@ use Rattle.std.specs.Cmp.Lexicographic.{pointwise}
 use Rattle.voy_schema.specs.declared.value.Value.{Value}
 use Rattle.voy_schema.specs.declared.value.Value.TheVariants.{Null, Text}
 
+-- the text of a value that has one
+abbrev pub known_text : Value → Option (List ℕ)
+known_text Null = None
+known_text (Text t) = Some t
+
 -- both have the same texts
 unfoldable pub same_key : List (List ℕ) → List (List ℕ) → Bool
 same_key a b = pointwise (pointwise nat_eq) a b

@@ -3,3 +3,4 @@ pub mod Changes
 pub mod Tables
 pub mod Lists
 pub mod RowText
+pub mod Standing

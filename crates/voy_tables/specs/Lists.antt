@@ -1,5 +1,5 @@
 -- Tables as lists: for each table its rows by ascending key, and what a change does to them.
-use Rattle.std.specs.Prelude.{ℕ, Bool, List, [], ◌∷◌, ◌&&◌, Option, Some, None, map, not, option_map, position, slice_get, slice_set, if◌then◌else◌}
+use Rattle.std.specs.Prelude.{◌≡◌, ℕ, Bool, List, [], ◌∷◌, ◌&&◌, Option, Some, None, map, not, option_map, position, slice_get, slice_set, if◌then◌else◌}
 use Rattle.std.specs.List.{list_any}
 use Rattle.std.specs.declared.cmp.Ordering.{Ordering}
 use Rattle.std.specs.declared.cmp.Ordering.TheVariants.{Less, Equal, Greater}
@@ -8,9 +8,13 @@ use Rattle.voy_schema.specs.declared.table.Table.{Table}
 use Rattle.voy_schema.specs.declared.table.UniqueKey.{UniqueKey}
 use Rattle.voy_schema.specs.declared.value.Value.{Value}
 use Rattle.voy_tables.specs.Changes.{RowChange}
+use Rattle.voy_tables.specs.declared.change.Change.{Change}
+use Rattle.voy_tables.specs.declared.change.Change.TheVariants.{Insert, Update, Delete}
 use Rattle.voy_tables.specs.Keys.{key_cmp, same_key, same_tuple, same_values}
 use Rattle.voy_tables.specs.Tables.{Tables}
 use Rattle.voy_tables.specs.declared.change.Misfit.{Misfit}
+use Rattle.voy_tables.specs.declared.change.PlainError.{PlainError}
+use Rattle.voy_tables.specs.declared.change.PlainError.TheVariants as refused
 use Rattle.voy_tables.specs.declared.change.Misfit.TheVariants.{KeyTaken, NoRow, OtherRow, Unique}
 
 -- the rows of the table at this place
@@ -83,6 +87,20 @@ misfit_of schema c lists = misfit_at (slice_get schema c.row.table) where
   misfit_at (Some t) =
       let rows = rows_in (slice_get lists c.row.table) in
       misfit_by c.before (row_with_key t c.row.key rows) (unique_misfit t c.row.key c.after rows)
+
+-- the same for the table that the change is of, and its rows
+abbrev pub misfit_in : Table → Change → List (List Value) → Option Misfit
+misfit_in t (Insert table after) rows =
+    misfit_by None (row_with_key t (key_of t after) rows) (unique_misfit t (key_of t after) (Some after) rows)
+misfit_in t (Update table before after) rows =
+    misfit_by (Some before) (row_with_key t (key_of t before) rows) (unique_misfit t (key_of t before) (Some after) rows)
+misfit_in t (Delete table before) rows =
+    misfit_by (Some before) (row_with_key t (key_of t before) rows) (unique_misfit t (key_of t before) None rows)
+
+-- why a change was refused: for its misfit, or for want of memory where it fits
+abbrev pub IsRefusal : Option Misfit → PlainError → Type 0
+IsRefusal found (refused.Misfit misfit) = found ≡ Some misfit
+IsRefusal found refused.NoMemory = found ≡ None
 
 -- no rows in any of these tables
 abbrev pub empty_lists : List Table → List (List (List Value))

@@ -1,13 +1,16 @@
 -- The text of a row: its fields with commas between, ended by LF, as `csv` writes them by default.
-use Rattle.std.specs.Prelude.{ℕ, Bool, List, [], ◌∷◌, ◌==◌, codes, length, map, nat_lt, if◌then◌else◌}
+use Rattle.std.specs.Prelude.{ℕ, Bool, false, List, [], ◌∷◌, ◌==◌, codes, length, map, nat_lt, if◌then◌else◌}
 use Rattle.csv.specs.Writing.{default_writer, row_text}
 use Rattle.voy_schema.specs.declared.value.Value.{Value}
 use Rattle.voy_schema.specs.declared.value.Value.TheVariants.{Null, Text}
 
+abbrev pub starts_with_backslash : List ℕ → Bool
+starts_with_backslash [] = false
+starts_with_backslash (b ∷ bs) = b == 92
+
 -- a text as a field: itself, with one more backslash in front of a first one
 abbrev pub text_field : List ℕ → List ℕ
-text_field [] = []
-text_field (b ∷ bs) = if b == 92 then 92 ∷ b ∷ bs else b ∷ bs
+text_field t = if starts_with_backslash t then 92 ∷ t else t
 
 -- NULL is `\N`, which no text's field is
 abbrev pub field_of : Value → List ℕ

@@ -43,12 +43,35 @@ pub enum Misfit {
     Unique { key: u32 },
 }
 
+/// Why a change was not done.
+#[derive(Clone, Copy, Debug, PartialEq, Eq)]
+pub enum PlainError {
+    Misfit(Misfit),
+    NoMemory,
+}
+
 /// For each table of a schema, its rows.
 pub type RowLists = Items<Rows>;
 
+impl From<AllocError> for PlainError {
+    ghost use Rattle.std.specs.Prelude.{◌≡◌};
+    ghost use Rattle.voy_tables.specs.declared.change.PlainError.TheVariants.{NoMemory};
+
+    ghost from_gives = { λ _ e. e ≡ NoMemory };
+
+    fn from(_refused: AllocError) -> PlainError {
+        PlainError::NoMemory
+    }
+}
+
 impl Change {
+    ghost use Rattle.std.specs.Prelude.{◌≡◌};
+    ghost use Rattle.voy_tables.specs.Changes.{table_of};
+
     /// The place of its table in the schema.
-    pub fn table(&self) -> u32 {
+    pub fn table(&self) -> u32
+        ensures { result ≡ table_of self.now }
+    {
         match self {
             Change::Insert { table, .. } => *table,
             Change::Update { table, .. } => *table,

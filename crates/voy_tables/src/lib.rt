@@ -4,7 +4,17 @@
 #![tactic(auto)]
 
 mod change;
+mod fitting;
+mod forming;
+mod keys;
+mod placing;
+mod plain;
+mod row_size;
 mod row_text;
 
-pub use change::{Change, Misfit, Role, RowLists, Side, Spot};
+pub use change::{Change, Misfit, PlainError, Role, RowLists, Side, Spot};
+pub use forming::well_formed;
+pub use keys::key_of;
+pub use plain::Plain;
+pub use row_size::{MAX_ROW_TEXT_BYTES, row_text_is_too_long};
 pub use row_text::write_row;

@@ -4,10 +4,10 @@ use Rattle.voy_disk.proofs.writing.write_all.Given as goal
 
 abbrev pub invariant-loop-at : goal.invariant-loop-at
 invariant-loop-at g l = record {
-    within : l.at ≤ length l.bytes;
-    written : g.K.Sink.written l.sink ≡ grown (g.K.Sink.written l.fn.sink) (take l.at l.bytes);
-    later : g.K.Sink.faults l.fn.sink ≤ g.K.Sink.faults l.sink;
-  }
+  within : l.at ≤ length l.bytes;
+  written : g.K.Sink.written l.sink ≡ grown (g.K.Sink.written l.fn.sink) (take l.at l.bytes);
+  later : g.K.Sink.faults l.fn.sink ≤ g.K.Sink.faults l.sink;
+}
 
 abbrev pub decreases-loop-at : goal.decreases-loop-at
 decreases-loop-at g l = length l.bytes - l.at
