@@ -5,6 +5,7 @@
 //! the list of its items, so that two values are equal exactly where they hold the same.
 #![tactic(auto)]
 
+mod building;
 mod copying;
 mod distinct;
 mod items;
@@ -14,6 +15,7 @@ mod lawful;
 mod limits;
 mod names;
 mod numbers;
+mod reading;
 mod rows;
 mod rules;
 mod schema;
