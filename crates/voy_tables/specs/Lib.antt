@@ -4,3 +4,4 @@ pub mod Tables
 pub mod Lists
 pub mod RowText
 pub mod Standing
+pub mod Laws
