@@ -7,3 +7,5 @@ pub mod SizeLemmas
 pub mod LookLemmas
 pub mod DoneLemmas
 pub mod FitLemmas
+pub mod TurnLemmas
+pub mod ReaderLemmas

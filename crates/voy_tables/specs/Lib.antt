@@ -5,3 +5,4 @@ pub mod Lists
 pub mod RowText
 pub mod Standing
 pub mod Laws
+pub mod Unread

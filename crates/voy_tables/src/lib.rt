@@ -10,6 +10,7 @@ mod keys;
 mod laws;
 mod placing;
 mod plain;
+mod record_reader;
 mod row_size;
 mod row_text;
 
