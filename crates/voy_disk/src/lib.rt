@@ -28,6 +28,7 @@ mod name;
 mod numbers;
 mod place;
 mod plan;
+mod refusals;
 mod sink;
 mod sure_disk;
 #[cfg(test)]

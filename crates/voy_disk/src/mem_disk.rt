@@ -1,5 +1,5 @@
 ghost use base.Fml.{GName};
-ghost use Rattle.std.specs.Prelude.{◌≡◌, ◌≤◌, ◌<◌, ◌^◌, ◌↔◌, ℕ, [], Some, None, length, IfOk, IfSome, IfErr, IsErr, OnOk, OnErr, IsErrOf, IsTrue};
+ghost use Rattle.std.specs.Prelude.{◌≡◌, ◌≤◌, ◌<◌, ◌^◌, ◌↔◌, ℕ, [], Some, None, length, IfOk, IfSome, IfErr, IsErr, OnOk, OnErr, IsTrue};
 ghost use Rattle.std.specs.Option.{option_map};
 ghost use Rattle.voy_disk.specs.Faults.{HasCause};
 ghost use Rattle.voy_disk.specs.Files.{Files, Told, Puts, length_of, bytes_now, Reads, NothingToRead};
@@ -70,7 +70,7 @@ impl MemDisk {
 
     // Counts a call, and fails it where the plan has its number.
     fn begin(&mut self) -> Result<(), DiskError>
-        ensures planned { IsErrOf result DiskError.Failed ↔ IsTrue (fails_next self.old) }
+        ensures planned { IsErr result ↔ IsTrue (fails_next self.old) }
         ensures failed { IfErr result (λ error. error ≡ DiskError.Failed) }
         ensures counted { CountsCall self.old self.new }
         ensures files { self.new.files ≡ self.old.files }
@@ -99,7 +99,8 @@ impl Disk for MemDisk {
         ensures short { IfOk result (λ n. IfSome n (λ bytes. bytes < 2 ^ 63)) }
         ensures same { mem_disk_files self.new ≡ mem_disk_files self.old }
         ensures cause { HasCause DiskError.Failed (mem_disk_faults self.old) (mem_disk_faults self.new) result }
-        ensures planned { IsErrOf result DiskError.Failed ↔ IsTrue (fails_next self.old) }
+        ensures planned { IsErr result ↔ IsTrue (fails_next self.old) }
+        ensures failed { IfErr result (λ error. error ≡ DiskError.Failed) }
         ensures counted { CountsCall self.old self.new }
     {
         self.begin()?;
@@ -112,7 +113,8 @@ impl Disk for MemDisk {
         ensures some { IfOk result (λ n. (n ≡ 0) ↔ NothingToRead (bytes_now (mem_disk_files self.old name.now)) at into.old) }
         ensures same { mem_disk_files self.new ≡ mem_disk_files self.old }
         ensures cause { HasCause DiskError.Failed (mem_disk_faults self.old) (mem_disk_faults self.new) result }
-        ensures planned { IsErrOf result DiskError.Failed ↔ IsTrue (fails_next self.old) }
+        ensures planned { IsErr result ↔ IsTrue (fails_next self.old) }
+        ensures failed { IfErr result (λ error. error ≡ DiskError.Failed) }
         ensures counted { CountsCall self.old self.new }
     {
         self.begin()?;

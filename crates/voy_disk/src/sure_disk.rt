@@ -1,5 +1,5 @@
 ghost use base.Fml.{GName};
-ghost use Rattle.std.specs.Prelude.{◌≡◌, ◌≤◌, ◌<◌, ◌^◌, ◌↔◌, ℕ, [], Some, None, length, IfOk, IfSome, OnOk, OnErr, IsErrOf};
+ghost use Rattle.std.specs.Prelude.{◌≡◌, ◌≤◌, ◌<◌, ◌^◌, ◌↔◌, ℕ, [], Some, None, length, IfOk, IfSome, OnOk, OnErr, IsOk};
 ghost use Rattle.std.specs.Option.{option_map};
 ghost use Rattle.voy_disk.specs.Files.{Files, Told, Puts, length_of, bytes_now, Reads, NothingToRead};
 ghost use Rattle.voy_disk.specs.MemFiles.{shown, files_read_images, files_are_short};
@@ -60,7 +60,7 @@ impl Disk for SureDisk {
         ensures length { IfOk result (λ n. n ≡ length_of (sure_disk_files self.old name.now)) }
         ensures short { IfOk result (λ n. IfSome n (λ bytes. bytes < 2 ^ 63)) }
         ensures same { sure_disk_files self.new ≡ sure_disk_files self.old }
-        ensures sure { ¬ IsErrOf result DiskError.Failed }
+        ensures sure { IsOk result }
     {
         Ok(length_in(&self.files, name))
     }
@@ -70,7 +70,7 @@ impl Disk for SureDisk {
         ensures bytes { IfOk result (λ n. Reads (bytes_now (sure_disk_files self.old name.now)) at n into.old into.new) }
         ensures some { IfOk result (λ n. (n ≡ 0) ↔ NothingToRead (bytes_now (sure_disk_files self.old name.now)) at into.old) }
         ensures same { sure_disk_files self.new ≡ sure_disk_files self.old }
-        ensures sure { ¬ IsErrOf result DiskError.Failed }
+        ensures sure { IsOk result }
     {
         Ok(read_in(&self.files, name, at, into))
     }

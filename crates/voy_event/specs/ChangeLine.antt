@@ -1,10 +1,10 @@
 -- The rules that event lines with a change and recorded change lines share.
-use Rattle.std.specs.Prelude.{ℕ, Bool, true, false, List, [], ◌∷◌, ◌&&◌, ◌||◌, Option, Some, None, Result, Ok, Err, codes, not, option_and_then, option_map, position, slice_get, if◌then◌else◌}
+use Rattle.std.specs.Prelude.{ℕ, Bool, true, false, List, [], ◌∷◌, ◌&&◌, ◌||◌, Option, Some, None, Result, Ok, Err, codes, not, option_and_then, option_map, slice_get, if◌then◌else◌}
 use Rattle.std.specs.List.{list_all}
-use Rattle.std.specs.Str.{bytes_eq}
 use Rattle.serde_json.specs.Data.{Data, null, boolean, number, string, array, object}
 use Rattle.serde_json.specs.Find.{get}
 use Rattle.voy_json.specs.Document.{has_names, has_only_names, names_of}
+use Rattle.voy_schema.specs.Lawful.{place_of}
 use Rattle.voy_schema.specs.declared.table.Table.{Table}
 use Rattle.voy_tables.specs.RowText.{is_too_long}
 use Rattle.voy_tables.specs.declared.change.Change.{Change}
@@ -31,7 +31,7 @@ seen p = record { place = p.place; table = p.table.now }
 -- the table with these names
 abbrev pub table_named : List Table → List ℕ → List ℕ → Option PlacedTable
 table_named tables schema_name table_name =
-    option_and_then (placed tables) (position (λ (t : Table). bytes_eq schema_name t.schema_name && bytes_eq table_name t.table_name) tables)
+    option_and_then (placed tables) (place_of schema_name table_name tables)
 
 -- the objects of column values have no name but those of the table's columns
 abbrev pub has_known_columns : Table → Data → Bool

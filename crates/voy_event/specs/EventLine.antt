@@ -1,5 +1,5 @@
 -- Which bytes are which event line, and which refusal comes first where they are none.
-use Rattle.std.specs.Prelude.{ℕ, Bool, true, false, List, [], ◌∷◌, ◌&&◌, Option, Some, None, Result, Ok, Err, codes, length, nat_le, nat_lt, not, option_map, if◌then◌else◌}
+use Rattle.std.specs.Prelude.{ℕ, Bool, true, false, List, [], ◌∷◌, Option, Some, None, Result, Ok, Err, codes, length, nat_le, nat_lt, not, option_map, if◌then◌else◌}
 use Rattle.std.specs.Str.{bytes_eq}
 use Rattle.std.specs.Option.{ok_or, option_map_or}
 use Rattle.serde_json.specs.Data.{Data}
@@ -33,12 +33,13 @@ change_event_names =
 unfoldable pub cutover_names : List (List ℕ)
 cutover_names = codes "exporter_role" ∷ codes "op" ∷ codes "vsn" ∷ []
 
--- the line's vsn, which is at least 1
+abbrev pub from_one : Option ℕ → Option ℕ
+from_one None = None
+from_one (Some vsn) = if nat_le 1 vsn then Some vsn else None
+
+-- the line's vsn, from 1
 abbrev pub vsn_at : Data → Option ℕ
-vsn_at d = from_one (number_at (codes "vsn") d) where
-  from_one : Option ℕ → Option ℕ
-  from_one None = None
-  from_one (Some vsn) = if nat_le 1 vsn then Some vsn else None
+vsn_at d = from_one (number_at (codes "vsn") d)
 
 -- an event with the line's vsn and exporter
 abbrev pub stamped : Option ℕ → Option Role → Result Change LineWhy → Result Event LineWhy

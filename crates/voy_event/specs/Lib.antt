@@ -3,3 +3,7 @@ pub mod Refusal
 pub mod Fields
 pub mod ChangeLine
 pub mod EventLine
+pub mod LawfulEvent
+pub mod EventLaws
+pub mod RecordedLine
+pub mod RecordedLaws

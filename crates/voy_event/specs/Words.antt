@@ -1,5 +1,5 @@
 -- The words of a line's `op` and exporter, and the strings and numbers at its names.
-use Rattle.std.specs.Prelude.{ℕ, List, Option, Some, None, codes, option_and_then, option_map, if◌then◌else◌}
+use Rattle.std.specs.Prelude.{ℕ, ◌^◌, List, Option, Some, None, codes, nat_lt, option_and_then, option_map, if◌then◌else◌}
 use Rattle.std.specs.Str.{bytes_eq}
 use Rattle.serde_json.specs.Data.{Data}
 use Rattle.serde_json.specs.Find.{as_number, as_str, as_u64, get}
@@ -38,9 +38,14 @@ text_of_role exporter.Target = codes "target_db_exporter_fb"
 abbrev pub text_at : List ℕ → Data → Option (List ℕ)
 text_at name d = option_and_then as_str (get name d)
 
+-- the number, where it is below 2 ^ 64
+abbrev pub in_64_bits : Option ℕ → Option ℕ
+in_64_bits None = None
+in_64_bits (Some n) = if nat_lt n (2 ^ 64) then Some n else None
+
 -- the whole number at this name of an object: digits without fraction and exponent, below 2 ^ 64
 abbrev pub number_at : List ℕ → Data → Option ℕ
-number_at name d = option_and_then as_u64 (option_and_then as_number (get name d))
+number_at name d = in_64_bits (option_and_then as_u64 (option_and_then as_number (get name d)))
 
 -- what an event line is; nothing where its `op` is absent or no such word
 abbrev pub event_kind : Data → Option EventKind

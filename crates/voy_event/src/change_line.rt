@@ -5,7 +5,7 @@ ghost use Rattle.voy_event.specs.Refusal.{Refuses};
 
 use crate::fields::{has_only_columns, is_null, row_at};
 use crate::line_error::{LineError, LineWhy};
-use crate::stand_in::{is_too_long, place_of};
+use crate::stand_in::is_too_long;
 use crate::words::{text_at, Op};
 use serde_json::Value as Json;
 use std::alloc::{AllocError, Global};
@@ -54,7 +54,7 @@ pub(crate) fn table_of_line<'a>(
 fn table_named<'a>(schema: &'a Schema, schema_name: &str, table_name: &str) -> Option<Placed<'a>>
     ensures { option_map seen result ≡ table_named schema.now.tables schema_name.now table_name.now }
 {
-    let place = place_of(schema, schema_name, table_name)?;
+    let place = schema.find(schema_name, table_name)?;
     let table = schema.tables.get(place as usize)?;
     Some(Placed { place, table })
 }

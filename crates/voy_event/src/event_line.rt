@@ -1,7 +1,8 @@
-ghost use Rattle.std.specs.Prelude.{◌≡◌, IfOk, IfErr};
+ghost use Rattle.std.specs.Prelude.{◌≡◌, Some, IfOk, IfErr};
 ghost use Rattle.serde_json.specs.View.{view};
 ghost use Rattle.voy_event.specs.EventLine.{change_event, change_event_names, cutover_vsn, document_reading, has_exporter, line_reading, vsn_at};
 ghost use Rattle.voy_event.specs.ChangeLine.{table_reading};
+ghost use Rattle.voy_event.specs.LawfulEvent.{IsLawful};
 ghost use Rattle.voy_event.specs.Refusal.{Refuses};
 
 use crate::change_line::{read_row_change, table_of_line};
@@ -37,6 +38,7 @@ const CUTOVER_NAMES: [&str; 3] = ["exporter_role", "op", "vsn"];
 pub fn read_line(alloc: Global, schema: &Schema, bytes: &[u8]) -> Result<Event, LineError>
     ensures ok { IfOk result (λ event. line_reading schema.now.tables bytes.now ≡ Ok event) }
     ensures err { IfErr result (Refuses (line_reading schema.now.tables bytes.now)) }
+    ensures lawful { IfOk result (IsLawful schema.now.tables) }
 {
     if bytes.len() > MAX_EVENT_LINE_BYTES {
         return Err(LineError::Bad(LineWhy::TooLong));

@@ -5,11 +5,10 @@ ghost use Rattle.voy_schema.specs.Rows as rows;
 ghost use Rattle.voy_json.specs.Document.{names_of};
 ghost use Rattle.voy_event.specs.Fields.{agrees_at, is_column, is_key_column, is_key_of_row, is_name_at, is_null, names_in, row_at, row_of, value_of};
 
-use crate::stand_in::is_lawful_row;
 use crate::words::text_at;
 use serde_json::Value as Json;
 use std::alloc::{AllocError, Global};
-use voy_schema::{Column, Items, Row, Table, Text, Value};
+use voy_schema::{is_lawful_row, Column, Items, Row, Table, Text, Value};
 
 /// Whether the object that may stand there has no name but those of the table's columns. Of what is no
 /// object nothing is asked.

@@ -13,10 +13,17 @@ mod event_line;
 mod fields;
 mod limits;
 mod line_error;
+mod recorded;
+mod recorded_line;
 mod stand_in;
 mod words;
+
+#[cfg(test)]
+mod tests;
 
 pub use event::{Event, What};
 pub use event_line::read_line;
 pub use limits::{MAX_EVENT_LINE_BYTES, MAX_RECORDED_LINE_BYTES};
 pub use line_error::{LineError, LineWhy};
+pub use recorded::Recorded;
+pub use recorded_line::read_change;

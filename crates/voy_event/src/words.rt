@@ -1,6 +1,6 @@
 ghost use Rattle.std.specs.Prelude.{◌≡◌, option_map};
 ghost use Rattle.serde_json.specs.View.{view};
-ghost use Rattle.voy_event.specs.Words.{event_kind, kind_of_text, number_at, op_of_text, role_at, role_of_text, text_at, text_of_role};
+ghost use Rattle.voy_event.specs.Words.{change_op, event_kind, kind_of_text, number_at, op_of_text, role_at, role_of_text, text_at, text_of_role};
 
 use serde_json::Value as Json;
 use voy_tables::Role;
@@ -84,6 +84,13 @@ pub(crate) fn event_kind(line: &Json) -> Option<EventKind>
     ensures { result ≡ event_kind (view line.now) }
 {
     text_at(line, "op").and_then(kind_of_text)
+}
+
+/// What a change line does, by its `op`.
+pub(crate) fn change_op(line: &Json) -> Option<Op>
+    ensures { result ≡ change_op (view line.now) }
+{
+    text_at(line, "op").and_then(op_of_text)
 }
 
 /// The exporter that an event line names.

@@ -1,2 +1,3 @@
 pub mod BigintLemmas
 pub mod RowLemmas
+pub mod ReadingLemmas

@@ -3,3 +3,5 @@ pub mod Values
 pub mod Rows
 pub mod Lending
 pub mod LawfulLaws
+pub mod Stated
+pub mod Reading

@@ -1,4 +1,4 @@
-ghost use Rattle.std.specs.Prelude.{◌≡◌, [], ◌∷◌, ◌++◌, ◌<◌, ◌≤◌, ◌↔◌, length, slice_get, slice_index_or, insert, remove, slice_set, IsTrue, IfOk, OnOk, OnErr, OnSome};
+ghost use Rattle.std.specs.Prelude.{◌≡◌, [], ◌∷◌, ◌++◌, ◌<◌, ◌≤◌, ◌↔◌, length, slice_get, slice_index_or, insert, remove, slice_set, take, IsTrue, IfOk, OnOk, OnErr, OnSome};
 ghost use Rattle.std.specs.Option.{option_copied};
 ghost use Rattle.std.specs.Borrow.{sem};
 ghost use Rattle.voy_schema.specs.Lending.{LendsItem};
@@ -123,6 +123,15 @@ impl<T: Drop> Items<T> {
         ensures { self.new ≡ remove self.old at }
     {
         let _removed = self.items.remove(at);
+    }
+}
+
+impl<T: Drop> Items<T> {
+    /// Lets go of the items from `length` on.
+    pub fn truncate(&mut self, length: usize)
+        ensures { self.new ≡ take length self.old }
+    {
+        self.items.truncate(length);
     }
 }
 

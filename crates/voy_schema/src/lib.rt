@@ -8,16 +8,20 @@
 mod copying;
 mod distinct;
 mod items;
+mod json;
 mod kinds;
 mod lawful;
 mod limits;
 mod names;
 mod numbers;
 mod rows;
+mod rules;
 mod schema;
+mod stated;
 mod table;
 mod text;
 mod value;
+mod why;
 
 pub use copying::{Copies, Same};
 pub use items::Items;
@@ -28,3 +32,4 @@ pub use schema::Schema;
 pub use table::{Column, Columns, Kind, Places, Table, Tables, UniqueKey, UniqueKeys};
 pub use text::Text;
 pub use value::{Bytes, Key, Row, Rows, Value};
+pub use why::{SchemaError, SchemaWhy};

@@ -1,0 +1,4 @@
+pub mod Finding
+pub mod Pieces
+pub mod Reading
+pub mod Told

@@ -1,0 +1,17 @@
+-- Facts on the files of a disk that tells them.
+use Rattle.std.proofs.Common.{◌≡◌, Option, Some, None, refl, subst}
+use Rattle.voy_disk.specs.Files.{Files, Told}
+
+-- what is told of the files that the disk tells
+pub told_at : (files : Option Files) (P : Files → Type 0) → Told files P → (fs : Files) → files ≡ Some fs → P fs
+told_at files P told fs is = let Holds : Option Files → Type 0 = λ o. Told o P in subst Holds is told
+
+-- what holds of the files that the disk tells is told
+pub told_from : (files : Option Files) (P : Files → Type 0) → ((fs : Files) → files ≡ Some fs → P fs) → Told files P
+told_from None P holds = tt
+told_from (Some fs) P holds = holds fs refl
+
+-- what follows from a fact that is told is told
+pub told_then : (files : Option Files) (P Q : Files → Type 0) → ((fs : Files) → P fs → Q fs) → Told files P → Told files Q
+told_then None P Q f told = tt
+told_then (Some fs) P Q f told = f fs told

@@ -1,0 +1,88 @@
+use Rattle.std.proofs.Common.{arith, ◌≡◌, ◌∙◌, ap, sym, [], length, refl}
+use Rattle.voy_files.specs.Reader.{found_line, line_limit, unread}
+use Rattle.voy_files.proofs.Finding.{finds_with, long_line}
+use Rattle.voy_files.proofs.Reading.{still_read, reads_to_feed, reads_on, fewer_left}
+use Rattle.voy_files.proofs.Told.{told_at, told_from}
+use Rattle.voy_files.proofs.line_reader.LineReader.next.Goals as goal
+
+pub returns-then-branch-clause-found : goal.returns-then-branch-clause-found
+returns-then-branch-clause-found g c =
+    let first = c.args.self.now in
+    let was = c.loop-self.self in
+    let reader = c.is_at_end.new.self in
+    told_from (g.D.Disk.files c.args.disk.now) _ (λ fs is.
+    let at_loop = c.loop-self.invariant.same ∙ is in
+    let so_far = told_at (g.D.Disk.files c.args.disk.now) _ c.loop-self.invariant.so_far fs is in
+    let left = told_at (g.D.Disk.files c.loop-self.disk) _ c.in_ok-is_at_end.ensures.left fs at_loop in
+    let kept = told_at (g.D.Disk.files c.loop-self.disk) _ c.in_ok-is_at_end.ensures.unread fs at_loop in
+    let none : unread was fs ≡ [] = left.0 c.if-branch.true in
+    finds_with c.last_found.result (line_limit reader) (line_limit first) (found_line reader) (unread first fs) [] (unread reader fs)
+    (sym (c.in_ok-is_at_end.ensures.limit ∙ c.loop-self.invariant.limit)) (kept ∙ none)
+    (c.last_found.ensures.finds (unread first fs)
+    (still_read (unread first fs) (found_line was) (found_line reader) (unread was fs) [] c.in_ok-is_at_end.ensures.line (sym none) so_far)))
+
+pub returns-then-branch-2-clause-found : goal.returns-then-branch-2-clause-found
+returns-then-branch-2-clause-found g c =
+    let first = c.args.self.now in
+    let was = c.loop-self.self in
+    let reader = c.is_at_end.new.self in
+    let after = c.take_piece.new.self in
+    told_from (g.D.Disk.files c.args.disk.now) _ (λ fs is.
+    let at_loop = c.loop-self.invariant.same ∙ is in
+    let so_far = told_at (g.D.Disk.files c.args.disk.now) _ c.loop-self.invariant.so_far fs is in
+    let kept = told_at (g.D.Disk.files c.loop-self.disk) _ c.in_ok-is_at_end.ensures.unread fs at_loop in
+    let begun = still_read (unread first fs) (found_line was) (found_line reader) (unread was fs) (unread reader fs)
+    c.in_ok-is_at_end.ensures.line kept so_far in
+    let read = reads_to_feed fs (unread first fs) c.in_ok-take_piece.field-0 reader after begun
+    c.in_ok-take_piece.ensures.took c.in_ok-take_piece.ensures.file c.if-branch-2.true in
+    finds_with c.whole_found.result (line_limit after) (line_limit first) (found_line after) (unread first fs) (unread after fs) (unread after fs)
+    (sym (c.in_ok-take_piece.ensures.file.limit ∙ c.in_ok-is_at_end.ensures.limit ∙ c.loop-self.invariant.limit)) refl
+    (c.whole_found.ensures (unread first fs) (unread after fs) read))
+
+pub returns-clause-found : goal.returns-clause-found
+returns-clause-found g c =
+    let first = c.args.self.now in
+    let was = c.loop-self.self in
+    told_from (g.D.Disk.files c.args.disk.now) _ (λ fs is.
+    let so_far = told_at (g.D.Disk.files c.args.disk.now) _ c.loop-self.invariant.so_far fs is in
+    long_line (line_limit first) (unread first fs) (found_line was) (unread was fs) so_far (omega (arith, was.line.ok.0)))
+
+pub loop-self-init : goal.loop-self-init
+loop-self-init g c = record {
+  so_far = told_from (g.D.Disk.files c.args.disk.now) _ (λ fs is.
+      still_read (unread c.args.self.now fs) [] c.clear.new.self.items (unread c.args.self.now fs) (unread c.args.self.now fs)
+      c.clear.ensures.items refl (record { split = refl; one = refl }));
+  same = refl;
+  fewer = omega (arith, ap length c.clear.ensures.items);
+  limit = refl;
+  later = omega arith;
+  lender = refl;
+}
+
+pub loop-self-preserved : goal.loop-self-preserved
+loop-self-preserved g c =
+    let first = c.args.self.now in
+    let was = c.loop-self.self in
+    let reader = c.is_at_end.new.self in
+    let after = c.take_piece.new.self in
+    record {
+      so_far = told_from (g.D.Disk.files c.args.disk.now) _ (λ fs is.
+          let at_loop = c.loop-self.invariant.same ∙ is in
+          let so_far = told_at (g.D.Disk.files c.args.disk.now) _ c.loop-self.invariant.so_far fs is in
+          let kept = told_at (g.D.Disk.files c.loop-self.disk) _ c.in_ok-is_at_end.ensures.unread fs at_loop in
+          let begun = still_read (unread first fs) (found_line was) (found_line reader) (unread was fs) (unread reader fs)
+          c.in_ok-is_at_end.ensures.line kept so_far in
+          reads_on fs (unread first fs) c.in_ok-take_piece.field-0 reader after begun
+          c.in_ok-take_piece.ensures.took c.in_ok-take_piece.ensures.file c.if-branch-2.false);
+      same = c.in_ok-is_at_end.ensures.same ∙ c.loop-self.invariant.same;
+      fewer = omega (
+        arith,
+        c.loop-self.invariant.fewer,
+        c.in_ok-is_at_end.ensures.fewer,
+        ap length c.in_ok-is_at_end.ensures.line,
+        fewer_left c.in_ok-take_piece.field-0 reader after c.in_ok-take_piece.ensures.took c.in_ok-take_piece.ensures.file c.if-branch-2.false,
+      );
+      limit = c.in_ok-take_piece.ensures.file.limit ∙ c.in_ok-is_at_end.ensures.limit ∙ c.loop-self.invariant.limit;
+      later = omega (arith, c.in_ok-is_at_end.ensures.cause.later);
+      lender = c.in_ok-is_at_end.ensures.lender ∙ c.loop-self.invariant.lender;
+    }

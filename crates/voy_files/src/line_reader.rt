@@ -1,0 +1,195 @@
+ghost use Rattle.std.specs.Prelude.{◌≡◌, ◌==◌, ◌≤◌, length, drop, position};
+
+use crate::piece::{PIECE_BYTES, read_piece, smaller};
+use std::alloc::{AllocError, Global};
+use voy_disk::{Disk, DiskError, Name};
+
+/// The byte that ends a line.
+const LINE_FEED: u8 = 10;
+
+/// What a reader found.
+#[derive(Clone, Copy, Debug, PartialEq, Eq)]
+pub enum Found {
+    /// A line, which [`LineReader::line`] gives.
+    Line,
+    /// A line of more bytes than the reader's limit.
+    TooLong,
+    /// No further byte.
+    End,
+}
+
+/// Goes through the lines of a file of any size, of which it holds one at a time.
+///
+/// A line is ended by LF, which is no part of it; the last line may lack it. The reader reads up to the
+/// length that the file had when it was opened.
+#[derive(Debug, Drop)]
+pub struct LineReader {
+    pub(crate) name: Name,
+    /// The place in the file of the next byte to read.
+    pub(crate) at: u64,
+    /// Bytes from here on are not read.
+    pub(crate) end: u64,
+    /// Bytes that were read last, of which those from `from` on were not given yet.
+    pub(crate) piece: Vec<u8>,
+    pub(crate) from: usize,
+    pub(crate) line: Vec<u8>,
+    pub(crate) limit: usize,
+}
+
+impl LineReader {
+    ghost use Rattle.std.specs.Prelude.{◌≡◌, ◌<◌, ◌≤◌, ◌^◌, ◌↔◌, ℕ, List, [], ◌∷◌, length, vec_len, IsTrue, IsFalse, IfOk, IfSome, MatchOption};
+    ghost use Rattle.voy_disk.specs.Faults.{HasCause};
+    ghost use Rattle.voy_disk.specs.Files.{Told, bytes_now};
+    ghost use Rattle.voy_files.specs.Reader.{Finds, IsRead, IsSameFile, TakesPiece, bytes_left, found_line, held, line_limit, unread};
+
+    /// A reader of the file's lines, of at most `limit` bytes each; `None` exactly where there is no such
+    /// file.
+    pub fn open<D: Disk>(
+        alloc: Global,
+        disk: &mut D,
+        name: Name,
+        limit: usize,
+    ) -> Result<Option<LineReader>, DiskError>
+        ensures absent { IfOk result (λ o. Told (D.files disk.old) (λ fs.
+            MatchOption o (fs name ≡ None) (λ r. unread r fs ≡ bytes_now (fs name)))) }
+        ensures limit { IfOk result (λ o. IfSome o (λ r. line_limit r ≡ limit)) }
+        ensures few { IfOk result (λ o. IfSome o (λ r. bytes_left r < 2 ^ 63)) }
+        ensures same { D.files disk.new ≡ D.files disk.old }
+        ensures cause { HasCause DiskError.Failed (D.faults disk.old) (D.faults disk.new) result }
+        ensures lender { D.lender disk.new ≡ D.lender disk.old }
+    {
+        let Some(end) = disk.len(&name)? else {
+            return Ok(None);
+        };
+        let reader = LineReader {
+            name,
+            at: 0,
+            end,
+            piece: Vec::new(alloc),
+            from: 0,
+            line: Vec::new(alloc),
+            limit,
+        };
+        Ok(Some(reader))
+    }
+
+    /// The line that was found last.
+    pub fn line(&self) -> &[u8]
+        ensures { result.now ≡ found_line self.now }
+    {
+        self.line.as_slice()
+    }
+
+    /// Finds the next line. After an error, and after a line that is too long, the reader is given up.
+    pub fn next<D: Disk>(&mut self, disk: &mut D) -> Result<Found, DiskError>
+        ensures found { IfOk result (λ found. Told (D.files disk.old) (λ fs.
+            Finds found (line_limit self.old) (found_line self.new) (unread self.old fs) (unread self.new fs))) }
+        ensures shrinks { IfOk result (λ found. found ≡ Found.Line → bytes_left self.new < bytes_left self.old) }
+        ensures limit { line_limit self.new ≡ line_limit self.old }
+        ensures same { D.files disk.new ≡ D.files disk.old }
+        ensures cause { HasCause DiskError.Failed (D.faults disk.old) (D.faults disk.new) result }
+        ensures lender { D.lender disk.new ≡ D.lender disk.old }
+    {
+        self.line.clear();
+        while self.line.len() <= self.limit {
+            if self.is_at_end(disk)? {
+                return Ok(self.last_found());
+            }
+            if self.take_piece()? {
+                return Ok(self.whole_found());
+            }
+        }
+        Ok(Found::TooLong)
+    }
+
+    /// Whether no byte is left. It reads the next piece where the one at hand is used up.
+    pub fn is_at_end<D: Disk>(&mut self, disk: &mut D) -> Result<bool, DiskError>
+        ensures left { IfOk result (λ end. Told (D.files disk.old) (λ fs. IsTrue end ↔ (unread self.old fs ≡ []))) }
+        ensures held { IfOk result (λ end. IsFalse end → 0 < length (held self.new)) }
+        ensures fewer { IfOk result (λ end. bytes_left self.new ≤ bytes_left self.old) }
+        ensures unread { IfOk result (λ end. Told (D.files disk.old) (λ fs. unread self.new fs ≡ unread self.old fs)) }
+        ensures line { found_line self.new ≡ found_line self.old }
+        ensures limit { line_limit self.new ≡ line_limit self.old }
+        ensures same { D.files disk.new ≡ D.files disk.old }
+        ensures cause { HasCause DiskError.Failed (D.faults disk.old) (D.faults disk.new) result }
+        ensures lender { D.lender disk.new ≡ D.lender disk.old }
+    {
+        if self.from < self.piece.len() {
+            return Ok(false);
+        }
+        if self.at >= self.end {
+            return Ok(true);
+        }
+        let room = smaller(self.end - self.at, PIECE_BYTES);
+        let alloc = *self.line.allocator();
+        let piece = read_piece(alloc, disk, &self.name, self.at, room)?;
+        let ended = piece.is_empty();
+        self.at += piece.len() as u64;
+        self.piece = piece;
+        self.from = 0;
+        Ok(ended)
+    }
+
+    /// Moves bytes of the piece behind the line's front: those up to a line feed, which is dropped, or all.
+    /// Whether there was a line feed.
+    fn take_piece(&mut self) -> Result<bool, AllocError>
+        requires { 0 < length (held self.old) }
+        ensures took { IfOk result (λ ended. TakesPiece ended self.old self.new) }
+        ensures file { IsSameFile self.old self.new }
+    {
+        let held = bytes_from(&self.piece, self.from);
+        match line_feed_at(held) {
+            Some(k) => {
+                self.line.extend_from_slice(&held[..k])?;
+                self.from += k + 1;
+                Ok(true)
+            }
+            None => {
+                self.line.extend_from_slice(held)?;
+                self.from = self.piece.len();
+                Ok(false)
+            }
+        }
+    }
+
+    /// What the line is that a line feed ended.
+    fn whole_found(&self) -> Found
+        ensures { (start left : List ℕ) → IsRead start (found_line self.now) (10 ∷ left) →
+            Finds result (line_limit self.now) (found_line self.now) start left }
+    {
+        if self.line.len() <= self.limit {
+            Found::Line
+        } else {
+            Found::TooLong
+        }
+    }
+
+    /// What the line is that the file's end ended.
+    fn last_found(&self) -> Found
+        requires { vec_len self.now.line ≤ line_limit self.now }
+        ensures finds { (start : List ℕ) → IsRead start (found_line self.now) [] →
+            Finds result (line_limit self.now) (found_line self.now) start [] }
+        ensures some { result ≡ Found.Line → 0 < length (found_line self.now) }
+    {
+        if self.line.is_empty() {
+            Found::End
+        } else {
+            Found::Line
+        }
+    }
+}
+
+/// The bytes from a place on.
+fn bytes_from(bytes: &[u8], from: usize) -> &[u8]
+    requires { from ≤ length bytes.now }
+    ensures { result.now ≡ drop from bytes.now }
+{
+    &bytes[from..]
+}
+
+/// The place of the first line feed.
+fn line_feed_at(bytes: &[u8]) -> Option<usize>
+    ensures { result ≡ position (λ byte. byte == 10) bytes.now }
+{
+    bytes.iter().position(|byte| *byte == LINE_FEED)
+}

@@ -1,0 +1,34 @@
+ghost use Rattle.std.specs.Prelude.{◌≡◌, IfOk, MatchOption, None, Some};
+ghost use Rattle.voy_disk.specs.Faults.{HasCause};
+ghost use Rattle.voy_disk.specs.Files.{Told, bytes_now};
+
+use crate::piece::{PIECE_BYTES, read_piece, smaller};
+use std::alloc::Global;
+use voy_disk::{Disk, DiskError, Name};
+
+/// The bytes of a file, whole; `None` exactly where there is no such file. For files that are small.
+pub fn read_file<D: Disk>(
+    alloc: Global,
+    disk: &mut D,
+    name: &Name,
+) -> Result<Option<Vec<u8>>, DiskError>
+    ensures whole { IfOk result (λ o. Told (D.files disk.old) (λ fs.
+        MatchOption o (fs name.now ≡ None) (λ bytes. bytes.items ≡ bytes_now (fs name.now)))) }
+    ensures same { D.files disk.new ≡ D.files disk.old }
+    ensures cause { HasCause DiskError.Failed (D.faults disk.old) (D.faults disk.new) result }
+    ensures lender { D.lender disk.new ≡ D.lender disk.old }
+{
+    let Some(length) = disk.len(name)? else {
+        return Ok(None);
+    };
+    let mut bytes = Vec::new(alloc);
+    while (bytes.len() as u64) < length {
+        let at = bytes.len() as u64;
+        let piece = read_piece(alloc, disk, name, at, smaller(length - at, PIECE_BYTES))?;
+        if piece.is_empty() {
+            return Ok(Some(bytes));
+        }
+        bytes.extend_from_slice(&piece)?;
+    }
+    Ok(Some(bytes))
+}

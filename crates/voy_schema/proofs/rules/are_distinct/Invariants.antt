@@ -1,0 +1,8 @@
+use Rattle.std.proofs.Common.{◌≡◌, drop}
+use Rattle.std.specs.Str.{bytes_eq}
+use Rattle.voy_schema.specs.Lawful.{is_distinct}
+use Rattle.voy_schema.proofs.rules.are_distinct.Given as goal
+
+-- no name so far stands again
+abbrev pub invariant-loop-i : goal.invariant-loop-i
+invariant-loop-i l = is_distinct bytes_eq l.names ≡ is_distinct bytes_eq (drop l.i l.names)

@@ -1,0 +1,64 @@
+-- The shape of `schema.json`: what an element of its list states, as texts.
+use Rattle.std.specs.Prelude.{ℕ, Bool, List, [], ◌∷◌, ◌&&◌, Option, Some, None, option_and_then, codes, if◌then◌else◌}
+use Rattle.serde_json.specs.Data.{Data, Items, no_items, item}
+use Rattle.serde_json.specs.Find.{as_array, as_str, get}
+use Rattle.voy_json.specs.Document.{has_names, has_only_names, is_object}
+use Rattle.voy_schema.specs.declared.stated.StatedColumn.{StatedColumn}
+use Rattle.voy_schema.specs.declared.stated.StatedKey.{StatedKey}
+use Rattle.voy_schema.specs.declared.stated.StatedTable.{StatedTable}
+
+-- an object with each of these names and no other
+abbrev pub is_exact : List (List ℕ) → Data → Bool
+is_exact names d = is_object d && has_names names d && has_only_names names d
+
+-- an item in front of those behind it, if all of them are there
+abbrev pub in_front : {A : Type 0} → Option A → Option (List A) → Option (List A)
+in_front None rest = None
+in_front (Some x) None = None
+in_front (Some x) (Some xs) = Some (x ∷ xs)
+
+-- what the items state, if each of them states something
+abbrev pub each : {A : Type 0} → (Data → Option A) → Items → Option (List A)
+each stated no_items = Some []
+each stated (item d ds) = in_front (stated d) (each stated ds)
+
+-- the string under this name
+abbrev pub text_at : List ℕ → Data → Option (List ℕ)
+text_at name d = option_and_then as_str (get name d)
+
+-- what the list under this name states
+abbrev pub list_at : {A : Type 0} → (Data → Option A) → List ℕ → Data → Option (List A)
+list_at stated name d = option_and_then (each stated) (option_and_then as_array (get name d))
+
+unfoldable pub column_names : List (List ℕ)
+column_names = codes "name" ∷ codes "type" ∷ []
+
+abbrev pub stated_column : Data → Option StatedColumn
+stated_column d = if is_exact column_names d then column (text_at (codes "name") d) (text_at (codes "type") d) else None where
+  column : Option (List ℕ) → Option (List ℕ) → Option StatedColumn
+  column (Some name) (Some kind) = Some record { name = name; kind = kind }
+  column _ _ = None
+
+unfoldable pub key_names : List (List ℕ)
+key_names = codes "columns" ∷ []
+
+abbrev pub stated_key : Data → Option StatedKey
+stated_key d = if is_exact key_names d then key (list_at as_str (codes "columns") d) else None where
+  key : Option (List (List ℕ)) → Option StatedKey
+  key (Some columns) = Some record { columns = columns }
+  key None = None
+
+unfoldable pub table_names : List (List ℕ)
+table_names = codes "schema_name" ∷ codes "table_name" ∷ codes "columns" ∷ codes "primary_key" ∷ codes "unique_keys" ∷ []
+
+abbrev pub stated_table : Data → Option StatedTable
+stated_table d =
+    if is_exact table_names d
+    then table (text_at (codes "schema_name") d) (text_at (codes "table_name") d) (list_at stated_column (codes "columns") d)
+    (list_at as_str (codes "primary_key") d) (list_at stated_key (codes "unique_keys") d)
+    else None
+  where
+    table : Option (List ℕ) → Option (List ℕ) → Option (List StatedColumn) → Option (List (List ℕ)) → Option (List StatedKey) → Option StatedTable
+    table (Some schema_name) (Some table_name) (Some columns) (Some primary_key) (Some unique_keys) =
+        Some record { schema_name = schema_name; table_name = table_name; columns = columns; primary_key = primary_key; unique_keys = unique_keys }
+    table _ _ _ _ _ = None
