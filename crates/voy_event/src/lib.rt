@@ -16,7 +16,6 @@ mod line_error;
 mod line_text;
 mod recorded;
 mod recorded_line;
-mod stand_in;
 mod words;
 
 #[cfg(test)]
