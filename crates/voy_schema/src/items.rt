@@ -49,6 +49,11 @@ impl<T> Items<T> {
         items
     }
 
+    /// The allocator that the list takes its memory from.
+    pub fn allocator(&self) -> Global {
+        *self.items.allocator()
+    }
+
     pub fn as_slice(&self) -> &[T]
         ensures { result.now ≡ self.now }
     {

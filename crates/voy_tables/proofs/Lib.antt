@@ -4,3 +4,8 @@ pub mod PlaceLemmas
 pub mod OrderLemmas
 pub mod TableLemmas
 pub mod SizeLemmas
+pub mod LookLemmas
+pub mod DoneLemmas
+pub mod FitLemmas
+pub mod TurnLemmas
+pub mod ReaderLemmas

@@ -25,7 +25,7 @@ same_key-by_cmp = lists_ties (slice_cmp nat_cmp) texts_ties
 pub equal_keys : (a b : List (List ℕ)) → key_cmp a b ≡ Equal → a ≡ b
 equal_keys a b e = (same_key-decides a b).0 (same_key-by_cmp a b ∙ ap is_eq e)
 
-is_less : (o : Ordering) → is_lt o ≡ true → o ≡ Less
+pub is_less : (o : Ordering) → is_lt o ≡ true → o ≡ Less
 is_less Less h = refl
 is_less Equal h = cc
 is_less Greater h = cc

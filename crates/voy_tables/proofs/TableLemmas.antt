@@ -1,5 +1,6 @@
 -- Lists of rows that are the tables of a schema, and stay so.
 use Rattle.std.proofs.Common.{◌≡◌, ℕ, zero, suc, ◌<◌, true, List, [], ◌∷◌, length, Some, Result, Ok, Err, OnOk, OnErr, get_or, refl, ap, subst, arith}
+use Rattle.std.specs.List.{list_all}
 use Rattle.std.specs.Prelude.{slice_get, slice_set}
 use Rattle.std.proofs.lemmas.Bool.{and_from, and_parts}
 use Rattle.std.proofs.lemmas.Option.{slice_get_read, slice_get_within}
@@ -11,7 +12,7 @@ use Rattle.voy_tables.proofs.OrderLemmas.{ascends-with_row, ascends-without_key,
 use Rattle.voy_tables.specs.Changes.{row_change}
 use Rattle.voy_tables.specs.declared.change.Change.TheVariants.{Insert, Delete}
 use Rattle.voy_tables.specs.Lists.{empty_lists, lists_after, rows_in, with_row, without_key}
-use Rattle.voy_tables.specs.Standing.{are_tables, is_table}
+use Rattle.voy_tables.specs.Standing.{are_tables, ascends, is_table}
 
 pub is_table-with_row : (t : Table) (row : List Value) (rows : List (List Value))
     → is_lawful_row t row ≡ true → is_table t rows ≡ true → is_table t (with_row t row rows) ≡ true
@@ -22,6 +23,9 @@ pub is_table-without_key : (t : Table) (key : List (List ℕ)) (rows : List (Lis
     → is_table t rows ≡ true → is_table t (without_key t key rows) ≡ true
 is_table-without_key t key rows h =
     and_from _ _ (list_all-without_key (is_lawful_row t) t key rows (and_parts _ _ h).0) (ascends-without_key t key rows (and_parts _ _ h).1)
+
+pub is_table-ascends : (t : Table) (rows : List (List Value)) → is_table t rows ≡ true → ascends t rows ≡ true
+is_table-ascends t rows h = (and_parts (list_all (is_lawful_row t) rows) (ascends t rows) h).1
 
 pub are_tables-empty : (schema : List Table) → are_tables schema (empty_lists schema) ≡ true
 are_tables-empty [] = refl

@@ -4,3 +4,5 @@ pub mod Tables
 pub mod Lists
 pub mod RowText
 pub mod Standing
+pub mod Laws
+pub mod Unread

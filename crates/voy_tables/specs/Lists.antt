@@ -63,6 +63,11 @@ lists_after schema c lists = lists_at (slice_get schema c.row.table) where
   lists_at None = lists
   lists_at (Some t) = slice_set lists c.row.table (rows_after t c.row.key c.after (rows_in (slice_get lists c.row.table)))
 
+-- all tables' rows after many changes, one after the other
+abbrev pub fold_lists : List Table → List (List (List Value)) → List RowChange → List (List (List Value))
+fold_lists schema lists [] = lists
+fold_lists schema lists (c ∷ cs) = fold_lists schema (lists_after schema c lists) cs
+
 -- a row of another key has this tuple
 abbrev pub is_taken : Table → List (List ℕ) → Option (List Value) → List (List Value) → UniqueKey → Bool
 is_taken t key after rows unique =

@@ -7,14 +7,19 @@ mod change;
 mod fitting;
 mod forming;
 mod keys;
+mod laws;
 mod placing;
 mod plain;
+mod record_reader;
 mod row_size;
 mod row_text;
 
 pub use change::{Change, Misfit, PlainError, Role, RowLists, Side, Spot};
 pub use forming::well_formed;
 pub use keys::key_of;
+pub use laws::{
+    empty_lists_have_no_rows, folds_agree, lists_are_tables, misfit_is_none_where_it_fits,
+};
 pub use plain::Plain;
 pub use row_size::{MAX_ROW_TEXT_BYTES, row_text_is_too_long};
 pub use row_text::write_row;

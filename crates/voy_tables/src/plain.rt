@@ -53,12 +53,12 @@ impl Plain {
     }
 
     /// A copy of the rows of the table at this place of the schema, by ascending key.
-    pub fn rows(&self, alloc: Global, table: u32) -> Result<Rows, AllocError>
+    pub fn rows(&self, table: u32) -> Result<Rows, AllocError>
         ensures { IfOk result (λ rows. rows ≡ rows_in (slice_get self.now.lists table)) }
     {
         match self.lists.get(table as usize) {
             Some(rows) => rows.copy(),
-            None => Ok(Rows::new(alloc)),
+            None => Ok(Rows::new(self.lists.allocator())),
         }
     }
 
