@@ -3,9 +3,6 @@ use std::alloc::Global;
 use std::test::Fail;
 use voy_disk::{Disk, DiskError, FaultPlan, MemDisk, Name, Numbers, SureDisk};
 
-/// More lines than any file of the tests has.
-const MANY_LINES: usize = 10;
-
 /// Longer than any line of the tests.
 const LONG_LINE_BYTES: usize = 1_000_000;
 
@@ -44,7 +41,7 @@ fn found_in<D: Disk>(
     let Some(mut reader) = LineReader::open(alloc, disk, name, limit)? else {
         return Ok(found);
     };
-    for _ in 0..MANY_LINES {
+    'lines: loop {
         if reader.is_at_end(disk)? {
             found.extend_from_slice(b"$")?;
         }
@@ -64,7 +61,6 @@ fn found_in<D: Disk>(
             }
         }
     }
-    Ok(found)
 }
 
 // As many of the letter a as the first length says, as many of b as the second, and so on, with
