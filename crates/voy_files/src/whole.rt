@@ -1,4 +1,4 @@
-ghost use Rattle.std.specs.Prelude.{◌≡◌, IfOk, MatchOption, None, Some};
+ghost use Rattle.std.specs.Prelude.{◌≡◌, IfOk, MatchOption, None, Some, is_some};
 ghost use Rattle.voy_disk.specs.Faults.{HasCause};
 ghost use Rattle.voy_disk.specs.Files.{Told, bytes_now};
 
@@ -14,6 +14,7 @@ pub fn read_file<D: Disk>(
 ) -> Result<Option<Vec<u8>>, DiskError>
     ensures whole { IfOk result (λ o. Told (D.files disk.old) (λ fs.
         MatchOption o (fs name.now ≡ None) (λ bytes. bytes.items ≡ bytes_now (fs name.now)))) }
+    ensures found { IfOk result (λ o. Told (D.files disk.old) (λ fs. is_some o ≡ is_some (fs name.now))) }
     ensures same { D.files disk.new ≡ D.files disk.old }
     ensures cause { HasCause DiskError.Failed (D.faults disk.old) (D.faults disk.new) result }
     ensures lender { D.lender disk.new ≡ D.lender disk.old }

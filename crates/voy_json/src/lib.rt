@@ -10,3 +10,6 @@ mod names;
 
 pub use document::{ParseError, parse};
 pub use names::{has_all, has_only};
+
+#[cfg(test)]
+mod tests;

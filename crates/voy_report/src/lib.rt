@@ -7,3 +7,6 @@
 mod show;
 
 pub use show::table_text;
+
+#[cfg(test)]
+mod tests;

@@ -1,0 +1,4 @@
+pub mod FoldingLaws
+pub mod SegmentLaws
+pub mod DryRunLaws
+pub mod TextLaws

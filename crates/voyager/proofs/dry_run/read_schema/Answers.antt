@@ -1,0 +1,33 @@
+use Rattle.std.proofs.Common.{◌≡◌, ℕ, List, Option, Some, ap, ◌∙◌, is_some, true}
+use Rattle.std.proofs.lemmas.Result.{IfErr-weaker, IfOk-weaker}
+use Rattle.voy_disk.specs.Files.{Files, bytes_now}
+use Rattle.voyager.specs.DryRun.{outcome_of}
+use Rattle.voyager.specs.Files.{file_bytes, schema_name}
+use Rattle.voyager.proofs.DryRunLaws.{file_there, memory_or_refusal}
+use Rattle.voyager.proofs.SegmentLaws.{told_at}
+use Rattle.voyager.proofs.dry_run.read_schema.Given.{Over}
+use Rattle.voyager.proofs.dry_run.read_schema.Goals as goal
+
+-- the file that was read is the schema's
+reads_schema : (g : Over) (c : goal.After-drop-name-inside g) (fs : Files) → g.D.Disk.files c.args.recording.now ≡ Some fs
+    → file_bytes (fs schema_name) ≡ Some c.as_slice.result.now
+reads_schema g c fs is =
+    let there : true ≡ is_some (fs c.in-Ok.name) =
+        told_at (g.D.Disk.files c.args.recording.now) _ (rw c.in-Ok-Some.field-0-is at c.in-Ok-Some.ensures.found) fs is in
+    let whole : c.in-Ok-Some.bytes.items ≡ bytes_now (fs c.in-Ok.name) =
+        told_at (g.D.Disk.files c.args.recording.now) _ (rw c.in-Ok-Some.field-0-is at c.in-Ok-Some.ensures.whole) fs is in
+    file_there (fs schema_name) c.as_slice.result.now (there ∙ ap (λ (name : List ℕ). is_some (fs name)) c.in-Ok.ensures)
+    (c.as_slice.ensures.value ∙ whole ∙ ap (λ (name : List ℕ). bytes_now (fs name)) c.in-Ok.ensures)
+
+pub returns-in-Ok-Some-clause-ok : goal.returns-in-Ok-Some-clause-ok
+returns-in-Ok-Some-clause-ok g c =
+    IfOk-weaker c.schema_of.result _ _
+    (λ schema reads. λ fs is. λ segment. ap (λ (bytes : Option (List ℕ)). outcome_of bytes segment) (reads_schema g c fs is) ∙ reads segment)
+    c.schema_of.ensures.ok
+
+pub returns-in-Ok-Some-clause-err : goal.returns-in-Ok-Some-clause-err
+returns-in-Ok-Some-clause-err g c =
+    IfErr-weaker c.schema_of.result _ _
+    (λ a stop. memory_or_refusal a _ _ _ _
+        (λ refuses. λ fs is. λ segment. ap (λ (bytes : Option (List ℕ)). outcome_of bytes segment) (reads_schema g c fs is) ∙ refuses segment) stop)
+    c.schema_of.ensures.err

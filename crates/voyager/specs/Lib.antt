@@ -1,0 +1,9 @@
+pub mod Words
+pub mod Answer
+pub mod Segment
+pub mod DryRun
+pub mod Folding
+pub mod Files
+pub mod Stops
+pub mod Printing
+pub mod Answered

@@ -1,0 +1,34 @@
+-- What the words of a command ask for.
+use Rattle.std.specs.Prelude.{ℕ, Bool, List, [], ◌∷◌, ◌&&◌, Option, Some, None, codes, if◌then◌else◌}
+use Rattle.std.specs.Str.{bytes_eq}
+use Rattle.voyager.specs.declared.words.Asked.{Asked}
+use Rattle.voyager.specs.declared.words.Asked.TheVariants.{DryRun, NoReading, NoCommand}
+
+-- the phrase `import data to target` as four words
+unfoldable pub is_import_to_target : List ℕ → List ℕ → List ℕ → List ℕ → Bool
+is_import_to_target a b c d =
+    bytes_eq a (codes "import") && bytes_eq b (codes "data") && bytes_eq c (codes "to") && bytes_eq d (codes "target")
+
+-- behind that phrase there is the one option `--dry-run`
+unfoldable pub asked_after_import : List (List ℕ) → Asked
+asked_after_import [] = NoReading
+asked_after_import (option ∷ []) = if bytes_eq option (codes "--dry-run") then DryRun else NoReading
+asked_after_import (option ∷ more ∷ rest) = NoReading
+
+-- what these words ask for
+abbrev pub asked_by : List (List ℕ) → Asked
+asked_by [] = NoCommand
+asked_by (a ∷ []) = NoCommand
+asked_by (a ∷ b ∷ []) = NoCommand
+asked_by (a ∷ b ∷ c ∷ []) = NoCommand
+asked_by (a ∷ b ∷ c ∷ d ∷ rest) = if is_import_to_target a b c d then asked_after_import rest else NoCommand
+
+abbrev pub non_empty : List ℕ → Option (List ℕ)
+non_empty [] = None
+non_empty (b ∷ bytes) = Some (b ∷ bytes)
+
+-- the folder that the words of the program name: the second word, where the first is `--export-dir` and the second is not empty
+unfoldable pub export_dir : List (List ℕ) → Option (List ℕ)
+export_dir [] = None
+export_dir (option ∷ []) = None
+export_dir (option ∷ folder ∷ rest) = if bytes_eq option (codes "--export-dir") then non_empty folder else None

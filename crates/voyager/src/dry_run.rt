@@ -1,0 +1,119 @@
+ghost use Rattle.std.specs.Prelude.{◌≡◌, ◌≤◌, [], ℕ, List, Option, Some, IfErr, IfOk, is_some};
+ghost use Rattle.voy_disk.specs.Faults.{Rose};
+ghost use Rattle.voyager.specs.Answered.{ComesFrom, IsPrinted, StopsDryRun, WithOutcome};
+ghost use Rattle.voyager.specs.DryRun.{outcome_of, outcome_of_lines, refusing};
+ghost use Rattle.voyager.specs.Files.{IfTold, file_bytes, metadata_name, schema_name};
+ghost use Rattle.voyager.specs.Folding.{outcome_from};
+ghost use Rattle.voyager.specs.Segment.{event_lines};
+ghost use Rattle.voyager.specs.Stops.{StopsBy};
+
+use std::alloc::Global;
+
+use voy_disk::{Disk, Sink};
+use voy_files::read_file;
+use voy_schema::{Schema, SchemaError};
+
+use crate::answer::{Answer, Cause, Which, disk_stop};
+use crate::fold::Fold;
+use crate::names::{metadata_file, schema_file};
+use crate::print::print_fold;
+use crate::segment::fold_segment;
+
+/// The dry run without metadata: folds the exported segment by the recorded schema, and prints the rows
+/// and whether the cutover event was reached.
+pub fn dry_run<D: Disk, K: Sink>(
+    alloc: Global,
+    recording: &mut D,
+    export: &mut D,
+    out: &mut K,
+) -> Answer
+    ensures cause { ComesFrom (D.files export.old) (D.files recording.old) (Rose (D.faults export.old) (D.faults export.new))
+        (Rose (D.faults recording.old) (D.faults recording.new)) (Rose (K.faults out.old) (K.faults out.new)) result }
+    ensures printed { IsPrinted (D.files export.old) (D.files recording.old) (K.written out.old) (K.written out.new) result }
+    ensures export { D.files export.new ≡ D.files export.old }
+    ensures recording { D.files recording.new ≡ D.files recording.old }
+{
+    let fold = match fold_recorded(alloc, recording, export) {
+        Ok(fold) => fold,
+        Err(stop) => return stop,
+    };
+    if let Err(stop) = print_fold(alloc, &fold, out) {
+        return stop;
+    }
+    if fold.ended {
+        Answer::Done
+    } else {
+        Answer::Waiting
+    }
+}
+
+/// The fold of the exported segment by the recorded schema.
+fn fold_recorded<D: Disk>(
+    alloc: Global,
+    recording: &mut D,
+    export: &mut D,
+) -> Result<Fold, Answer>
+    ensures ok { IfOk result (λ fold. WithOutcome (D.files export.old) (D.files recording.old) (λ o. o ≡ outcome_from fold [])) }
+    ensures err { IfErr result (StopsDryRun (D.files export.old) (D.files recording.old) (Rose (D.faults export.old) (D.faults export.new))
+        (Rose (D.faults recording.old) (D.faults recording.new))) }
+    ensures export { D.files export.new ≡ D.files export.old }
+    ensures recording { D.files recording.new ≡ D.files recording.old }
+{
+    match has_metadata(alloc, export) {
+        Ok(true) => return Err(Answer::NotBuilt),
+        Ok(false) => {}
+        Err(stop) => return Err(stop),
+    }
+    match read_schema(alloc, recording) {
+        Ok(schema) => fold_segment(alloc, export, schema),
+        Err(stop) => Err(stop),
+    }
+}
+
+/// Whether there are metadata on the export disk.
+fn has_metadata<D: Disk>(alloc: Global, export: &mut D) -> Result<bool, Answer>
+    ensures ok { IfOk result (λ there. IfTold (D.files export.old) (λ fs. there ≡ is_some (fs metadata_name))) }
+    ensures err { IfErr result (StopsBy (Answer.Fault Which.Export) (Rose (D.faults export.old) (D.faults export.new)) (λ a. ⊥)) }
+    ensures same { D.files export.new ≡ D.files export.old }
+    ensures later { D.faults export.old ≤ D.faults export.new }
+{
+    let Ok(name) = metadata_file(alloc) else {
+        return Err(Answer::NoMemory);
+    };
+    match export.len(&name) {
+        Ok(length) => Ok(length.is_some()),
+        Err(error) => Err(disk_stop(Which::Export, error)),
+    }
+}
+
+/// The recorded schema.
+fn read_schema<D: Disk>(alloc: Global, recording: &mut D) -> Result<Schema, Answer>
+    ensures ok { IfOk result (λ schema. IfTold (D.files recording.old) (λ fs. (segment : Option (List ℕ)) →
+        outcome_of (file_bytes (fs schema_name)) segment ≡ outcome_of_lines schema.tables (event_lines segment))) }
+    ensures err { IfErr result (StopsBy (Answer.Fault Which.Recording) (Rose (D.faults recording.old) (D.faults recording.new)) (λ a.
+        IfTold (D.files recording.old) (λ fs. (segment : Option (List ℕ)) →
+        outcome_of (file_bytes (fs schema_name)) segment ≡ refusing a))) }
+    ensures same { D.files recording.new ≡ D.files recording.old }
+    ensures later { D.faults recording.old ≤ D.faults recording.new }
+{
+    let Ok(name) = schema_file(alloc) else {
+        return Err(Answer::NoMemory);
+    };
+    match read_file(alloc, recording, &name) {
+        Ok(Some(bytes)) => schema_of(alloc, bytes.as_slice()),
+        Ok(None) => Err(Answer::Refused(Cause::MissingSchema)),
+        Err(error) => Err(disk_stop(Which::Recording, error)),
+    }
+}
+
+fn schema_of(alloc: Global, bytes: &[u8]) -> Result<Schema, Answer>
+    ensures ok { IfOk result (λ schema. (segment : Option (List ℕ)) →
+        outcome_of (Some bytes.now) segment ≡ outcome_of_lines schema.tables (event_lines segment)) }
+    ensures err { IfErr result (StopsBy Answer.NoMemory ⊥ (λ a. (segment : Option (List ℕ)) → outcome_of (Some bytes.now) segment ≡ refusing a)) }
+{
+    match Schema::read(alloc, bytes) {
+        Ok(schema) => Ok(schema),
+        Err(SchemaError::Bad { table, why }) => Err(Answer::Refused(Cause::Schema { table, why })),
+        Err(SchemaError::NoMemory) => Err(Answer::NoMemory),
+    }
+}
