@@ -10,84 +10,97 @@ use crate::why::{SchemaError, SchemaWhy};
 use std::alloc::{AllocError, Global};
 use std::test::Fail;
 
-const TEXTS: [(Kind, &str, bool); 43] = [
-    (Kind::Text, "", true),
-    (Kind::Text, "é", true),
-    (Kind::Text, "a\0b", false),
-    (Kind::Bigint, "0", true),
-    (Kind::Bigint, "7", true),
-    (Kind::Bigint, "-1", true),
-    (Kind::Bigint, "9223372036854775807", true),
-    (Kind::Bigint, "9223372036854775808", false),
-    (Kind::Bigint, "-9223372036854775808", true),
-    (Kind::Bigint, "-9223372036854775809", false),
-    (Kind::Bigint, "10000000000000000000", false),
-    (Kind::Bigint, "", false),
-    (Kind::Bigint, "-", false),
-    (Kind::Bigint, "-0", false),
-    (Kind::Bigint, "--1", false),
-    (Kind::Bigint, "+1", false),
-    (Kind::Bigint, "01", false),
-    (Kind::Bigint, "-01", false),
-    (Kind::Bigint, "00", false),
-    (Kind::Bigint, " 1", false),
-    (Kind::Bigint, "1 ", false),
-    (Kind::Bigint, "1.0", false),
-    (Kind::Bigint, "1e3", false),
-    (Kind::Bigint, "a", false),
-    (Kind::Boolean, "t", true),
-    (Kind::Boolean, "f", true),
-    (Kind::Boolean, "T", false),
-    (Kind::Boolean, "true", false),
-    (Kind::Boolean, "tf", false),
-    (Kind::Boolean, "", false),
-    (Kind::Bytea, "\\x", true),
-    (Kind::Bytea, "\\x00", true),
-    (Kind::Bytea, "\\x09af", true),
-    (Kind::Bytea, "\\xA0", false),
-    (Kind::Bytea, "\\xa", false),
-    (Kind::Bytea, "\\xa0b", false),
-    (Kind::Bytea, "\\xg0", false),
-    (Kind::Bytea, "\\X00", false),
-    (Kind::Bytea, "x00", false),
-    (Kind::Bytea, "\\", false),
-    (Kind::Bytea, "00", false),
-    (Kind::Bytea, "a0", false),
-    (Kind::Bytea, "", false),
-];
+// tables of cases stand behind functions, so that the proofs of the loops do not carry them
+fn texts() -> &'static [(Kind, &'static str, bool)] {
+    &[
+        (Kind::Text, "", true),
+        (Kind::Text, "é", true),
+        (Kind::Text, "a\0b", false),
+        (Kind::Bigint, "0", true),
+        (Kind::Bigint, "7", true),
+        (Kind::Bigint, "-1", true),
+        (Kind::Bigint, "9223372036854775807", true),
+        (Kind::Bigint, "9223372036854775808", false),
+        (Kind::Bigint, "-9223372036854775808", true),
+        (Kind::Bigint, "-9223372036854775809", false),
+        (Kind::Bigint, "10000000000000000000", false),
+        (Kind::Bigint, "", false),
+        (Kind::Bigint, "-", false),
+        (Kind::Bigint, "-0", false),
+        (Kind::Bigint, "--1", false),
+        (Kind::Bigint, "+1", false),
+        (Kind::Bigint, "01", false),
+        (Kind::Bigint, "-01", false),
+        (Kind::Bigint, "00", false),
+        (Kind::Bigint, " 1", false),
+        (Kind::Bigint, "1 ", false),
+        (Kind::Bigint, "1.0", false),
+        (Kind::Bigint, "1e3", false),
+        (Kind::Bigint, "a", false),
+        (Kind::Boolean, "t", true),
+        (Kind::Boolean, "f", true),
+        (Kind::Boolean, "T", false),
+        (Kind::Boolean, "true", false),
+        (Kind::Boolean, "tf", false),
+        (Kind::Boolean, "", false),
+        (Kind::Bytea, "\\x", true),
+        (Kind::Bytea, "\\x00", true),
+        (Kind::Bytea, "\\x09af", true),
+        (Kind::Bytea, "\\xA0", false),
+        (Kind::Bytea, "\\xa", false),
+        (Kind::Bytea, "\\xa0b", false),
+        (Kind::Bytea, "\\xg0", false),
+        (Kind::Bytea, "\\X00", false),
+        (Kind::Bytea, "x00", false),
+        (Kind::Bytea, "\\", false),
+        (Kind::Bytea, "00", false),
+        (Kind::Bytea, "a0", false),
+        (Kind::Bytea, "", false),
+    ]
+}
 
 #[test]
 fn each_kind_takes_its_texts(rt: HostRuntime) {
-    for (kind, text, want) in TEXTS {
-        assert_eq!(rt; check_value(kind, text), want, "{text}");
+    for (kind, text, want) in texts() {
+        assert_eq!(rt; check_value(*kind, text), *want, "{text}");
     }
 }
 
-const WHOLE: [(&str, &str); 4] = [
-    (
-        r#"{"tables":[{"schema_name":"public","table_name":"users","columns":[{"name":"id","type":"bigint"},{"name":"email","type":"text"}],"primary_key":["id"],"unique_keys":[{"columns":["email"]}]}]}"#,
-        "public.users id bigint, email text, key 0, unique 1,;",
-    ),
-    (
-        r#"{"tables":[{"schema_name":"public","table_name":"notes","columns":[{"name":"id","type":"text"},{"name":"body","type":"text"}],"primary_key":["id"],"unique_keys":[]}]}"#,
-        "public.notes id text, body text, key 0,;",
-    ),
-    (
-        r#"{"tables":[{"schema_name":"public","table_name":"pairs","columns":[{"name":"id","type":"bigint"},{"name":"a","type":"text"},{"name":"b","type":"text"}],"primary_key":["id"],"unique_keys":[{"columns":["a","b"]}]}]}"#,
-        "public.pairs id bigint, a text, b text, key 0, unique 1, 2,;",
-    ),
-    (
-        r#" { "tables" : 1, "tables":[{"unique_keys":[],"primary_key":["b","a"],"columns":[{"type":"boolean","name":"a"},{"name":"b","type":"bytea"}],"table_name":7,"table_name":"t","schema_name":"a"},{"schema_name":"b","table_name":"t","columns":[{"name":"_","type":"text"}],"primary_key":["_"],"unique_keys":[{"columns":["_"]}]}]} "#,
-        "a.t a boolean, b bytea, key 1, 0,;b.t _ text, key 0, unique 0,;",
-    ),
-];
+const USERS: &str =
+    r#"{"tables":[{"schema_name":"public","table_name":"users","columns":[{"name":"id","type":"bigint"},{"name":"email","type":"text"}],"primary_key":["id"],"unique_keys":[{"columns":["email"]}]}]}"#;
+
+const NOTES: &str =
+    r#"{"tables":[{"schema_name":"public","table_name":"notes","columns":[{"name":"id","type":"text"},{"name":"body","type":"text"}],"primary_key":["id"],"unique_keys":[]}]}"#;
+
+const PAIRS: &str =
+    r#"{"tables":[{"schema_name":"public","table_name":"pairs","columns":[{"name":"id","type":"bigint"},{"name":"a","type":"text"},{"name":"b","type":"text"}],"primary_key":["id"],"unique_keys":[{"columns":["a","b"]}]}]}"#;
+
+const TWO: &str =
+    r#" { "tables" : 1, "tables":[{"unique_keys":[],"primary_key":["b","a"],"columns":[{"type":"boolean","name":"a"},{"name":"b","type":"bytea"}],"table_name":7,"table_name":"t","schema_name":"a"},{"schema_name":"b","table_name":"t","columns":[{"name":"_","type":"text"}],"primary_key":["_"],"unique_keys":[{"columns":["_"]}]}]} "#;
+
+const TWO_IN_WORDS: &str = "a.t a boolean, b bytea, key 1, 0,;b.t _ text, key 0, unique 0,;";
+
+fn whole() -> &'static [(&'static str, &'static str)] {
+    &[
+        (
+            USERS,
+            "public.users id bigint, email text, key 0, unique 1,;",
+        ),
+        (NOTES, "public.notes id text, body text, key 0,;"),
+        (
+            PAIRS,
+            "public.pairs id bigint, a text, b text, key 0, unique 1, 2,;",
+        ),
+        (TWO, TWO_IN_WORDS),
+    ]
+}
 
 #[test]
 fn a_schema_reads_as_it_states(rt: HostRuntime) -> Result<(), Fail> {
-    for (text, want) in WHOLE {
+    for (text, want) in whole() {
         let schema = Schema::read(rt.alloc(), text.as_bytes())?;
         let found = described(rt.alloc(), &schema)?;
-        assert_eq!(rt; found.as_str(), want);
+        assert_eq!(rt; found.as_str(), *want);
         assert!(rt; schema.table(0).is_some());
         assert!(rt; schema.table(schema.tables.len()).is_none());
     }
@@ -138,27 +151,29 @@ fn describe_places(alloc: Global, places: &[u32], to: &mut String) -> Result<(),
     Ok(())
 }
 
-const DOCUMENTS: [(&[u8], SchemaWhy); 13] = [
-    (b"", SchemaWhy::NotJson),
-    (b"{", SchemaWhy::NotJson),
-    (b"{'tables':[]}", SchemaWhy::NotJson),
-    (b"{\"tables\":[]} 1", SchemaWhy::NotJson),
-    (b"{\"tables\":[\"\xff\"]}", SchemaWhy::NotJson),
-    (b"null", SchemaWhy::Shape),
-    (b"[]", SchemaWhy::Shape),
-    (b"{}", SchemaWhy::Shape),
-    (b"{\"Tables\":[]}", SchemaWhy::Shape),
-    (b"{\"tables\":[],\"version\":1}", SchemaWhy::Shape),
-    (b"{\"tables\":{}}", SchemaWhy::Shape),
-    (b"{\"tables\":[],\"tables\":null}", SchemaWhy::Shape),
-    (b"{\"tables\":[]}", SchemaWhy::TooMany),
-];
+fn documents() -> &'static [(&'static [u8], SchemaWhy)] {
+    &[
+        (b"", SchemaWhy::NotJson),
+        (b"{", SchemaWhy::NotJson),
+        (b"{'tables':[]}", SchemaWhy::NotJson),
+        (b"{\"tables\":[]} 1", SchemaWhy::NotJson),
+        (b"{\"tables\":[\"\xff\"]}", SchemaWhy::NotJson),
+        (b"null", SchemaWhy::Shape),
+        (b"[]", SchemaWhy::Shape),
+        (b"{}", SchemaWhy::Shape),
+        (b"{\"Tables\":[]}", SchemaWhy::Shape),
+        (b"{\"tables\":[],\"version\":1}", SchemaWhy::Shape),
+        (b"{\"tables\":{}}", SchemaWhy::Shape),
+        (b"{\"tables\":[],\"tables\":null}", SchemaWhy::Shape),
+        (b"{\"tables\":[]}", SchemaWhy::TooMany),
+    ]
+}
 
 #[test]
 fn a_broken_document_has_the_number_0(rt: HostRuntime) -> Result<(), Fail> {
-    for (bytes, why) in DOCUMENTS {
+    for (bytes, why) in documents() {
         let read = refusal(rt.alloc(), bytes)?;
-        assert_eq!(rt; read, Some((0, why)), "{}", why.text());
+        assert_eq!(rt; read, Some((0, *why)), "{}", why.text());
     }
     for (depth, why) in [(127, SchemaWhy::Shape), (128, SchemaWhy::NotJson)] {
         let nested = nested_lists(rt.alloc(), depth)?;
@@ -203,126 +218,128 @@ const MEMBERS: [&str; 5] = [
 ];
 
 // what stands behind these members, where the last of a name counts, and the first rule that is broken
-const BEHIND: [(&str, Option<SchemaWhy>); 54] = [
-    ("", None),
-    (r#","schema_name":1"#, Some(SchemaWhy::Shape)),
-    (r#","table_name":null"#, Some(SchemaWhy::Shape)),
-    (r#","columns":{}"#, Some(SchemaWhy::Shape)),
-    (r#","columns":["a"]"#, Some(SchemaWhy::Shape)),
-    (r#","columns":[{"name":"a"}]"#, Some(SchemaWhy::Shape)),
-    (
-        r#","columns":[{"name":"a","type":"text","null":1}]"#,
-        Some(SchemaWhy::Shape),
-    ),
-    (
-        r#","columns":[{"name":1,"type":"text"}]"#,
-        Some(SchemaWhy::Shape),
-    ),
-    (
-        r#","columns":[{"name":"a","type":null}]"#,
-        Some(SchemaWhy::Shape),
-    ),
-    (r#","primary_key":"a""#, Some(SchemaWhy::Shape)),
-    (r#","primary_key":[1]"#, Some(SchemaWhy::Shape)),
-    (r#","unique_keys":{}"#, Some(SchemaWhy::Shape)),
-    (r#","unique_keys":[["b"]]"#, Some(SchemaWhy::Shape)),
-    (r#","unique_keys":[{}]"#, Some(SchemaWhy::Shape)),
-    (
-        r#","unique_keys":[{"columns":["b"],"name":"u"}]"#,
-        Some(SchemaWhy::Shape),
-    ),
-    (
-        r#","unique_keys":[{"columns":"b"}]"#,
-        Some(SchemaWhy::Shape),
-    ),
-    (
-        r#","unique_keys":[{"columns":[null]}]"#,
-        Some(SchemaWhy::Shape),
-    ),
-    (r#","comment":"""#, Some(SchemaWhy::Shape)),
-    (r#","comment":"","columns":[]"#, Some(SchemaWhy::Shape)),
-    (r#","columns":[]"#, Some(SchemaWhy::TooMany)),
-    (
-        r#","columns":[],"schema_name":"A""#,
-        Some(SchemaWhy::TooMany),
-    ),
-    (r#","schema_name":"""#, Some(SchemaWhy::BadName)),
-    (r#","schema_name":"Public""#, Some(SchemaWhy::BadName)),
-    (r#","schema_name":"1a""#, Some(SchemaWhy::BadName)),
-    (r#","schema_name":"_1a""#, None),
-    (r#","schema_name":"a-b""#, Some(SchemaWhy::BadName)),
-    (r#","table_name":"""#, Some(SchemaWhy::BadName)),
-    (r#","table_name":"é""#, Some(SchemaWhy::BadName)),
-    (r#","table_name":"a1""#, None),
-    (
-        r#","columns":[{"name":"a","type":"text"},{"name":"","type":"text"}]"#,
-        Some(SchemaWhy::BadName),
-    ),
-    (
-        r#","columns":[{"name":"B","type":"date"}]"#,
-        Some(SchemaWhy::BadName),
-    ),
-    (
-        r#","columns":[{"name":"a","type":"text"},{"name":"b","type":"date"}]"#,
-        Some(SchemaWhy::BadType),
-    ),
-    (
-        r#","columns":[{"name":"a","type":"Text"},{"name":"b","type":"text"}]"#,
-        Some(SchemaWhy::BadType),
-    ),
-    (
-        r#","columns":[{"name":"a","type":""},{"name":"b","type":"text"}]"#,
-        Some(SchemaWhy::BadType),
-    ),
-    (
-        r#","columns":[{"name":"a","type":"text"},{"name":"a","type":"date"}]"#,
-        Some(SchemaWhy::BadType),
-    ),
-    (
-        r#","columns":[{"name":"a","type":"text"},{"name":"b","type":"text"},{"name":"a","type":"bytea"}]"#,
-        Some(SchemaWhy::Repeated),
-    ),
-    (r#","primary_key":["a","b","a"]"#, Some(SchemaWhy::Repeated)),
-    (r#","primary_key":["b","a"]"#, None),
-    (r#","primary_key":["c","c"]"#, Some(SchemaWhy::Repeated)),
-    (
-        r#","unique_keys":[{"columns":["a"]},{"columns":["b","b"]}]"#,
-        Some(SchemaWhy::Repeated),
-    ),
-    (
-        r#","unique_keys":[{"columns":["b"]},{"columns":["b"]}]"#,
-        None,
-    ),
-    (r#","unique_keys":[{"columns":["a"]}]"#, None),
-    (r#","table_name":"users""#, Some(SchemaWhy::Repeated)),
-    (r#","table_name":"users","schema_name":"shop""#, None),
-    (
-        r#","table_name":"users","primary_key":["c"]"#,
-        Some(SchemaWhy::Repeated),
-    ),
-    (r#","primary_key":["c"]"#, Some(SchemaWhy::NoColumn)),
-    (r#","primary_key":["a","c"]"#, Some(SchemaWhy::NoColumn)),
-    (r#","primary_key":["A"]"#, Some(SchemaWhy::NoColumn)),
-    (
-        r#","unique_keys":[{"columns":["b"]},{"columns":["c"]}]"#,
-        Some(SchemaWhy::NoColumn),
-    ),
-    (
-        r#","primary_key":[],"unique_keys":[{"columns":["c"]}]"#,
-        Some(SchemaWhy::NoColumn),
-    ),
-    (r#","primary_key":[]"#, Some(SchemaWhy::NoKey)),
-    (
-        r#","unique_keys":[{"columns":["b"]},{"columns":[]}]"#,
-        Some(SchemaWhy::NoKey),
-    ),
-    (r#","unique_keys":[]"#, None),
-    (r#","primary_key":[],"primary_key":["b"]"#, None),
-];
+fn behind_cases() -> &'static [(&'static str, Option<SchemaWhy>)] {
+    &[
+        ("", None),
+        (r#","schema_name":1"#, Some(SchemaWhy::Shape)),
+        (r#","table_name":null"#, Some(SchemaWhy::Shape)),
+        (r#","columns":{}"#, Some(SchemaWhy::Shape)),
+        (r#","columns":["a"]"#, Some(SchemaWhy::Shape)),
+        (r#","columns":[{"name":"a"}]"#, Some(SchemaWhy::Shape)),
+        (
+            r#","columns":[{"name":"a","type":"text","null":1}]"#,
+            Some(SchemaWhy::Shape),
+        ),
+        (
+            r#","columns":[{"name":1,"type":"text"}]"#,
+            Some(SchemaWhy::Shape),
+        ),
+        (
+            r#","columns":[{"name":"a","type":null}]"#,
+            Some(SchemaWhy::Shape),
+        ),
+        (r#","primary_key":"a""#, Some(SchemaWhy::Shape)),
+        (r#","primary_key":[1]"#, Some(SchemaWhy::Shape)),
+        (r#","unique_keys":{}"#, Some(SchemaWhy::Shape)),
+        (r#","unique_keys":[["b"]]"#, Some(SchemaWhy::Shape)),
+        (r#","unique_keys":[{}]"#, Some(SchemaWhy::Shape)),
+        (
+            r#","unique_keys":[{"columns":["b"],"name":"u"}]"#,
+            Some(SchemaWhy::Shape),
+        ),
+        (
+            r#","unique_keys":[{"columns":"b"}]"#,
+            Some(SchemaWhy::Shape),
+        ),
+        (
+            r#","unique_keys":[{"columns":[null]}]"#,
+            Some(SchemaWhy::Shape),
+        ),
+        (r#","comment":"""#, Some(SchemaWhy::Shape)),
+        (r#","comment":"","columns":[]"#, Some(SchemaWhy::Shape)),
+        (r#","columns":[]"#, Some(SchemaWhy::TooMany)),
+        (
+            r#","columns":[],"schema_name":"A""#,
+            Some(SchemaWhy::TooMany),
+        ),
+        (r#","schema_name":"""#, Some(SchemaWhy::BadName)),
+        (r#","schema_name":"Public""#, Some(SchemaWhy::BadName)),
+        (r#","schema_name":"1a""#, Some(SchemaWhy::BadName)),
+        (r#","schema_name":"_1a""#, None),
+        (r#","schema_name":"a-b""#, Some(SchemaWhy::BadName)),
+        (r#","table_name":"""#, Some(SchemaWhy::BadName)),
+        (r#","table_name":"é""#, Some(SchemaWhy::BadName)),
+        (r#","table_name":"a1""#, None),
+        (
+            r#","columns":[{"name":"a","type":"text"},{"name":"","type":"text"}]"#,
+            Some(SchemaWhy::BadName),
+        ),
+        (
+            r#","columns":[{"name":"B","type":"date"}]"#,
+            Some(SchemaWhy::BadName),
+        ),
+        (
+            r#","columns":[{"name":"a","type":"text"},{"name":"b","type":"date"}]"#,
+            Some(SchemaWhy::BadType),
+        ),
+        (
+            r#","columns":[{"name":"a","type":"Text"},{"name":"b","type":"text"}]"#,
+            Some(SchemaWhy::BadType),
+        ),
+        (
+            r#","columns":[{"name":"a","type":""},{"name":"b","type":"text"}]"#,
+            Some(SchemaWhy::BadType),
+        ),
+        (
+            r#","columns":[{"name":"a","type":"text"},{"name":"a","type":"date"}]"#,
+            Some(SchemaWhy::BadType),
+        ),
+        (
+            r#","columns":[{"name":"a","type":"text"},{"name":"b","type":"text"},{"name":"a","type":"bytea"}]"#,
+            Some(SchemaWhy::Repeated),
+        ),
+        (r#","primary_key":["a","b","a"]"#, Some(SchemaWhy::Repeated)),
+        (r#","primary_key":["b","a"]"#, None),
+        (r#","primary_key":["c","c"]"#, Some(SchemaWhy::Repeated)),
+        (
+            r#","unique_keys":[{"columns":["a"]},{"columns":["b","b"]}]"#,
+            Some(SchemaWhy::Repeated),
+        ),
+        (
+            r#","unique_keys":[{"columns":["b"]},{"columns":["b"]}]"#,
+            None,
+        ),
+        (r#","unique_keys":[{"columns":["a"]}]"#, None),
+        (r#","table_name":"users""#, Some(SchemaWhy::Repeated)),
+        (r#","table_name":"users","schema_name":"shop""#, None),
+        (
+            r#","table_name":"users","primary_key":["c"]"#,
+            Some(SchemaWhy::Repeated),
+        ),
+        (r#","primary_key":["c"]"#, Some(SchemaWhy::NoColumn)),
+        (r#","primary_key":["a","c"]"#, Some(SchemaWhy::NoColumn)),
+        (r#","primary_key":["A"]"#, Some(SchemaWhy::NoColumn)),
+        (
+            r#","unique_keys":[{"columns":["b"]},{"columns":["c"]}]"#,
+            Some(SchemaWhy::NoColumn),
+        ),
+        (
+            r#","primary_key":[],"unique_keys":[{"columns":["c"]}]"#,
+            Some(SchemaWhy::NoColumn),
+        ),
+        (r#","primary_key":[]"#, Some(SchemaWhy::NoKey)),
+        (
+            r#","unique_keys":[{"columns":["b"]},{"columns":[]}]"#,
+            Some(SchemaWhy::NoKey),
+        ),
+        (r#","unique_keys":[]"#, None),
+        (r#","primary_key":[],"primary_key":["b"]"#, None),
+    ]
+}
 
 #[test]
 fn a_broken_table_has_its_first_why(rt: HostRuntime) -> Result<(), Fail> {
-    for (behind, why) in BEHIND {
+    for (behind, why) in behind_cases() {
         let text = two_tables(rt.alloc(), None, behind)?;
         let want = why.map(|why| (2, why));
         assert_eq!(rt; refusal(rt.alloc(), text.as_bytes())?, want, "{behind}");
@@ -356,7 +373,7 @@ fn two_tables(alloc: Global, missing: Option<usize>, behind: &str) -> Result<Str
 }
 
 // how many tables, columns, unique keys and bytes behind the first two of each table's name, and the refusal
-const SIZES: [([u32; 4], Option<(u32, SchemaWhy)>); 9] = [
+const SIZES: &[([u32; 4], Option<(u32, SchemaWhy)>)] = &[
     ([1, 1, 0, 0], None),
     ([256, 1, 0, 0], None),
     ([257, 1, 0, 0], Some((0, SchemaWhy::TooMany))),
@@ -371,10 +388,10 @@ const SIZES: [([u32; 4], Option<(u32, SchemaWhy)>); 9] = [
 #[test]
 fn the_limits_of_a_schema_are_its_own(rt: HostRuntime) -> Result<(), Fail> {
     for (sizes, want) in SIZES {
-        let text = sized(rt.alloc(), sizes)?;
+        let text = sized(rt.alloc(), *sizes)?;
         assert_eq!(rt;
             refusal(rt.alloc(), text.as_bytes())?,
-            want,
+            *want,
             "{}",
             text.as_str()
         );
@@ -430,7 +447,7 @@ fn the_first_broken_table_is_named(rt: HostRuntime) -> Result<(), Fail> {
     Ok(())
 }
 
-const ROWS: [(&[Option<&str>], bool); 9] = [
+const ROWS: &[(&[Option<&str>], bool)] = &[
     (&[Some("1"), Some("a")], true),
     (&[Some("1"), Some("")], true),
     (&[Some("1"), None], true),
@@ -444,12 +461,11 @@ const ROWS: [(&[Option<&str>], bool); 9] = [
 
 #[test]
 fn a_row_has_a_lawful_value_for_each_column_and_a_whole_key(rt: HostRuntime) -> Result<(), Fail> {
-    let (text, _) = WHOLE[0];
-    let schema = Schema::read(rt.alloc(), text.as_bytes())?;
+    let schema = Schema::read(rt.alloc(), USERS.as_bytes())?;
     let table = schema.table(0).ok_or("no table")?;
     for (values, want) in ROWS {
         let row = row_of(rt.alloc(), values)?;
-        assert_eq!(rt; is_lawful_row(table, &row), want, "{values:?}");
+        assert_eq!(rt; is_lawful_row(table, &row), *want, "{values:?}");
     }
     assert!(rt; is_lawful_value(Kind::Bigint, &Value::Null));
     Ok(())
@@ -469,8 +485,7 @@ fn row_of(alloc: Global, values: &[Option<&str>]) -> Result<Row, AllocError> {
 
 #[test]
 fn a_table_is_found_by_both_names(rt: HostRuntime) -> Result<(), Fail> {
-    let (text, _) = WHOLE[3];
-    let schema = Schema::read(rt.alloc(), text.as_bytes())?;
+    let schema = Schema::read(rt.alloc(), TWO.as_bytes())?;
     for (schema_name, table_name, want) in [
         ("a", "t", Some(0)),
         ("b", "t", Some(1)),
@@ -488,11 +503,10 @@ fn a_table_is_found_by_both_names(rt: HostRuntime) -> Result<(), Fail> {
 
 #[test]
 fn a_schema_is_made_of_lawful_tables_alone(rt: HostRuntime) -> Result<(), Fail> {
-    let (text, want) = WHOLE[3];
-    let schema = Schema::read(rt.alloc(), text.as_bytes())?;
+    let schema = Schema::read(rt.alloc(), TWO.as_bytes())?;
     let copy = schema.copy()?;
     let made = Schema::new(copy.tables).ok_or("refused")?;
-    assert_eq!(rt; described(rt.alloc(), &made)?.as_str(), want);
+    assert_eq!(rt; described(rt.alloc(), &made)?.as_str(), TWO_IN_WORDS);
 
     let mut tables = made.copy()?.tables;
     let again = schema.table(0).ok_or("no table")?.copy()?;
@@ -502,7 +516,7 @@ fn a_schema_is_made_of_lawful_tables_alone(rt: HostRuntime) -> Result<(), Fail> 
     Ok(())
 }
 
-const WHY_TEXTS: [(SchemaWhy, &str); 8] = [
+const WHY_TEXTS: &[(SchemaWhy, &str)] = &[
     (SchemaWhy::NotJson, "not json"),
     (SchemaWhy::Shape, "wrong shape"),
     (SchemaWhy::TooMany, "too many"),
@@ -516,6 +530,6 @@ const WHY_TEXTS: [(SchemaWhy, &str); 8] = [
 #[test]
 fn each_why_has_its_text(rt: HostRuntime) {
     for (why, text) in WHY_TEXTS {
-        assert_eq!(rt; why.text(), text);
+        assert_eq!(rt; why.text(), *text);
     }
 }
