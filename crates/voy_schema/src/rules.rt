@@ -42,7 +42,11 @@ pub fn has_no_repeat(earlier: &[Table], stated: &StatedTable) -> bool
 {
     have_distinct_names(stated.columns.as_slice())
         && has_distinct_keys(stated)
-        && !has_table(earlier, stated.schema_name.as_str(), stated.table_name.as_str())
+        && !has_table(
+            earlier,
+            stated.schema_name.as_str(),
+            stated.table_name.as_str(),
+        )
 }
 
 fn have_distinct_names(columns: &[StatedColumn]) -> bool
@@ -96,7 +100,9 @@ fn has_name(names: &[Text], name: &str) -> bool
 fn has_table(tables: &[Table], schema_name: &str, table_name: &str) -> bool
     ensures { result ≡ list_any (is_named schema_name.now table_name.now) tables.now }
 {
-    tables.iter().any(|table| table.is_named(schema_name, table_name))
+    tables
+        .iter()
+        .any(|table| table.is_named(schema_name, table_name))
 }
 
 /// Whether each key has a column.

@@ -9,3 +9,5 @@ pub mod DoneLemmas
 pub mod FitLemmas
 pub mod TurnLemmas
 pub mod ReaderLemmas
+pub mod ReadingLemmas
+pub mod FieldLemmas

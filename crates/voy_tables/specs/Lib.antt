@@ -6,3 +6,4 @@ pub mod RowText
 pub mod Standing
 pub mod Laws
 pub mod Unread
+pub mod Readings
