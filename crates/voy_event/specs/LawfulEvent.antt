@@ -25,3 +25,17 @@ pub record IsLawful (tables : List Table) (event : Event) : Type 0 where
   pub from_one : 1 ≤ event.vsn
   pub fits : event.vsn < 2 ^ 64
   pub what : IsLawfulFrom tables event.role event.what
+
+-- a change that belongs to the schema
+abbrev pub IsWritableChange : List Table → Change → Type 0
+IsWritableChange tables c = is_well_formed tables c ≡ true
+
+abbrev pub IsWritableWhat : List Table → What → Type 0
+IsWritableWhat tables (what.Change c) = IsWritableChange tables c
+IsWritableWhat tables what.CutoverTarget = Unit {0}
+IsWritableWhat tables what.CutoverSource = Unit {0}
+
+-- an event that may be written: its change belongs to the schema, and its vsn is from 1
+pub record IsWritable (tables : List Table) (event : Event) : Type 0 where
+  pub from_one : 1 ≤ event.vsn
+  pub what : IsWritableWhat tables event.what

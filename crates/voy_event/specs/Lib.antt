@@ -7,3 +7,4 @@ pub mod LawfulEvent
 pub mod EventLaws
 pub mod RecordedLine
 pub mod RecordedLaws
+pub mod LineText

@@ -5,13 +5,12 @@ ghost use Rattle.voy_event.specs.Refusal.{Refuses};
 
 use crate::fields::{has_only_columns, is_null, row_at};
 use crate::line_error::{LineError, LineWhy};
-use crate::stand_in::is_too_long;
 use crate::words::{text_at, Op};
 use serde_json::Value as Json;
 use std::alloc::{AllocError, Global};
 use voy_json::{has_all, has_only};
 use voy_schema::{Schema, Table};
-use voy_tables::Change;
+use voy_tables::{row_text_is_too_long, Change};
 
 /// A table of the schema, with its place there.
 #[derive(Clone, Copy)]
@@ -81,7 +80,7 @@ pub(crate) fn read_row_change(
     let Some(change) = change_of(alloc, op, placed, line)? else {
         return Err(LineError::Bad(LineWhy::BadValue));
     };
-    if has_long_row(alloc, &change)? {
+    if has_long_row(&change) {
         return Err(LineError::Bad(LineWhy::TooLong));
     }
     Ok(change)
@@ -149,14 +148,14 @@ fn delete_of(alloc: Global, placed: &Placed, line: &Json) -> Result<Option<Chang
     }))
 }
 
-fn has_long_row(alloc: Global, change: &Change) -> Result<bool, AllocError>
-    ensures { IfOk result (λ long. long ≡ has_long_row change.now) }
+fn has_long_row(change: &Change) -> bool
+    ensures { result ≡ has_long_row change.now }
 {
     match change {
-        Change::Insert { after, .. } => is_too_long(alloc, after),
+        Change::Insert { after, .. } => row_text_is_too_long(after),
         Change::Update { before, after, .. } => {
-            Ok(is_too_long(alloc, before)? || is_too_long(alloc, after)?)
+            row_text_is_too_long(before) || row_text_is_too_long(after)
         }
-        Change::Delete { before, .. } => is_too_long(alloc, before),
+        Change::Delete { before, .. } => row_text_is_too_long(before),
     }
 }

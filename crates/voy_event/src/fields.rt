@@ -164,7 +164,7 @@ fn agrees_at(table: &Table, key: &Json, row: &Row, place: u32) -> bool
 }
 
 /// The text of the row's value at this place, the empty one where it has none there.
-fn text_in(row: &Row, place: u32) -> &str
+pub(crate) fn text_in(row: &Row, place: u32) -> &str
     ensures { result.now ≡ rows.text_of (rows.value_at row.now place) }
 {
     match row.get(place as usize) {

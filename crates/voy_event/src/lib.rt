@@ -13,9 +13,9 @@ mod event_line;
 mod fields;
 mod limits;
 mod line_error;
+mod line_text;
 mod recorded;
 mod recorded_line;
-mod stand_in;
 mod words;
 
 #[cfg(test)]
@@ -25,5 +25,6 @@ pub use event::{Event, What};
 pub use event_line::read_line;
 pub use limits::{MAX_EVENT_LINE_BYTES, MAX_RECORDED_LINE_BYTES};
 pub use line_error::{LineError, LineWhy};
+pub use line_text::write_line;
 pub use recorded::Recorded;
 pub use recorded_line::read_change;

@@ -99,10 +99,11 @@ ends_where bytes piece at end room is within roomy some = (
       omega (arith, sizes, length-append piece (drop (at + length piece) (take end bytes))),
 )
 
--- the file's first n bytes, with a piece of m bytes that stands behind them
-pub longer_front : (bytes front piece longer : List ℕ) (n m size : ℕ)
+-- the file's first n bytes, with a piece of m bytes that stands behind them and is given as a slice
+pub longer_front : (bytes front piece given longer : List ℕ) (n m size : ℕ)
     → front ≡ take n bytes → n ≡ length front → piece ≡ take m (drop n bytes) → m ≡ length piece
-    → longer ≡ front ++ piece → size ≡ length longer → longer ≡ take size bytes
-longer_front bytes front piece longer n m size is counts next more both sized =
-    let sum : n + m ≡ size = omega (arith, ap length both, length-append front piece) in
-    both ∙ ap (λ f. f ++ piece) is ∙ ap (λ p. take n bytes ++ p) next ∙ sym (take-add n m bytes) ∙ ap (λ k. take k bytes) sum
+    → given ≡ piece → longer ≡ front ++ given → size ≡ length longer → longer ≡ take size bytes
+longer_front bytes front piece given longer n m size is counts next more same both sized =
+    let joined : longer ≡ front ++ piece = both ∙ ap (λ p. front ++ p) same in
+    let sum : n + m ≡ size = omega (arith, ap length joined, length-append front piece) in
+    joined ∙ ap (λ f. f ++ piece) is ∙ ap (λ p. take n bytes ++ p) next ∙ sym (take-add n m bytes) ∙ ap (λ k. take k bytes) sum

@@ -3,7 +3,8 @@
 //! [`read_file`] reads a small file whole. A [`LineReader`] goes through a file of any size in pieces of
 //! 65,536 bytes and holds one line at a time, of at most the number of bytes that it was opened with.
 //! Its clause `found` says that what it gives are the lines of the file, one after the other, where the
-//! disk tells its files.
+//! disk tells its files. Its clause `shrinks` says that each line leaves fewer bytes, on any disk: a loop
+//! over the lines has `bytes_left` as its measure.
 #![tactic(auto)]
 
 mod line_reader;

@@ -1,3 +1,5 @@
 pub mod Document
 pub mod Refusal
 pub mod NameLaws
+pub mod Canonical
+pub mod CanonicalLaws

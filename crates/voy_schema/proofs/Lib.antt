@@ -1,3 +1,4 @@
 pub mod BigintLemmas
 pub mod RowLemmas
 pub mod ReadingLemmas
+pub mod LawfulReading

@@ -1,11 +1,13 @@
 -- What holds of the tables of a schema, drawn from the one test that they are lawful.
-use Rattle.std.specs.Prelude.{◌≡◌, ℕ, zero, suc, ◌<◌, ◌≤◌, Bool, true, List, [], ◌∷◌, length, map, slice_get, nat_eq, nat_lt, Some}
-use Rattle.std.specs.List.{All, list_all}
+use Rattle.std.specs.Prelude.{◌≡◌, ℕ, zero, suc, ◌+◌, ◌<◌, ◌≤◌, Bool, true, false, ◌||◌, List, [], ◌∷◌, length, map, slice_get, nat_eq, nat_lt, Some, None}
+use Rattle.std.specs.List.{All, list_all, list_any, position_from}
 use Rattle.std.specs.Str.{bytes_eq}
-use Rattle.std.proofs.Common.{subst}
-use Rattle.std.proofs.lemmas.Bool.{and_parts, leb-true, ltb-true}
+use Rattle.std.proofs.Common.{refl, sym, ap, ◌∙◌, subst, cond, arith}
+use Rattle.std.proofs.lemmas.Bool.{and_from, and_parts, cond-false, cond-true, leb-true, ltb-true, not-true, or_parts}
+use Rattle.std.proofs.lemmas.Iterator.Adapters.{position_from-zero}
 use Rattle.std.proofs.lemmas.List.Sums.{AllPass-from_list_all}
-use Rattle.voy_schema.specs.Lawful.{has_same_names, is_distinct, is_lawful, is_lawful_key, is_lawful_table, is_name}
+use Rattle.std.proofs.lemmas.Slice.Eq.{bytes_eq-Decides}
+use Rattle.voy_schema.specs.Lawful.{has_same_names, is_distinct, is_lawful, is_lawful_key, is_lawful_table, is_name, is_named, place_of}
 use Rattle.voy_schema.specs.declared.table.Column.{Column}
 use Rattle.voy_schema.specs.declared.table.Table.{Table}
 use Rattle.voy_schema.specs.declared.table.UniqueKey.{UniqueKey}
@@ -81,3 +83,69 @@ key_places_are_within width places lawful k d within =
 
 pub key_places_are_distinct : (width : ℕ) (places : List ℕ) → is_lawful_key width places ≡ true → is_distinct nat_eq places ≡ true
 key_places_are_distinct width places lawful = (and_parts _ _ lawful).1
+
+-- ---- the place that names are found at
+
+-- the test of a name holds of the name itself
+same_text : (s : List ℕ) → bytes_eq s s ≡ true
+same_text s = (bytes_eq-Decides s s).1 refl
+
+-- no item has what the item at a place has not
+none_at : {A : Type 0} (test : A → Bool) (xs : List A) (at : ℕ) (x : A) → list_any test xs ≡ false → slice_get xs at ≡ Some x → test x ≡ false
+none_at test [] at x none found = cc
+none_at test (y ∷ xs) zero x none found = let same : y ≡ x = cc in subst (λ z. test z ≡ false) same (or_parts _ _ none).0
+none_at test (y ∷ xs) (suc at) x none found = none_at test xs at x (or_parts _ _ none).1 found
+
+found_from : (schema_name table_name : List ℕ) (tables : List Table) (from place : ℕ) → position_from (is_named schema_name table_name) from tables ≡ Some place
+    → (at : ℕ) × (t : Table) × (place ≡ from + at) × (slice_get tables at ≡ Some t) × (is_named schema_name table_name t ≡ true)
+found_from schema_name table_name [] from place found = cc
+found_from schema_name table_name (t ∷ tables) from place found = by_test (is_named schema_name table_name t) refl found (found_from schema_name table_name tables (from + 1) place) where
+  by_test : (b : Bool) → is_named schema_name table_name t ≡ b → cond b (Some from) (position_from (is_named schema_name table_name) (from + 1) tables) ≡ Some place
+      → (position_from (is_named schema_name table_name) (from + 1) tables ≡ Some place
+      → (at : ℕ) × (u : Table) × (place ≡ from + 1 + at) × (slice_get tables at ≡ Some u) × (is_named schema_name table_name u ≡ true))
+      → (at : ℕ) × (u : Table) × (place ≡ from + at) × (slice_get (t ∷ tables) at ≡ Some u) × (is_named schema_name table_name u ≡ true)
+  by_test true named here behind = let same : from ≡ place = cc in (0, t, omega arith, refl, named)
+  by_test false other there behind = let more = behind there in (suc more.0, more.1, omega arith, more.3, more.4)
+
+-- a table stands at the place that its names are found at, and has them
+pub place_of-some : (schema_name table_name : List ℕ) (tables : List Table) (place : ℕ) → place_of schema_name table_name tables ≡ Some place
+    → (t : Table) × (slice_get tables place ≡ Some t) × (is_named schema_name table_name t ≡ true)
+place_of-some schema_name table_name tables place found =
+    let at_place = found_from schema_name table_name tables 0 place (sym (position_from-zero (is_named schema_name table_name) tables) ∙ found) in
+    let same : at_place.0 ≡ place = omega arith in
+    (at_place.1, subst (λ k. slice_get tables k ≡ Some at_place.1) same at_place.3, at_place.4)
+
+none_from : (schema_name table_name : List ℕ) (tables : List Table) (from : ℕ) → position_from (is_named schema_name table_name) from tables ≡ None
+    → list_any (is_named schema_name table_name) tables ≡ false
+none_from schema_name table_name [] from none = refl
+none_from schema_name table_name (t ∷ tables) from none = by_test (is_named schema_name table_name t) none (none_from schema_name table_name tables (from + 1)) where
+  by_test : (b : Bool) → cond b (Some from) (position_from (is_named schema_name table_name) (from + 1) tables) ≡ None
+      → (position_from (is_named schema_name table_name) (from + 1) tables ≡ None → list_any (is_named schema_name table_name) tables ≡ false)
+      → (b || list_any (is_named schema_name table_name) tables) ≡ false
+  by_test true found behind = cc
+  by_test false rest behind = behind rest
+
+-- names that are found nowhere are those of no table
+pub place_of-none : (schema_name table_name : List ℕ) (tables : List Table) → place_of schema_name table_name tables ≡ None
+    → list_any (is_named schema_name table_name) tables ≡ false
+place_of-none schema_name table_name tables none =
+    none_from schema_name table_name tables 0 (sym (position_from-zero (is_named schema_name table_name) tables) ∙ none)
+
+at_from : (tables : List Table) (from at : ℕ) (t : Table) → is_distinct has_same_names tables ≡ true → slice_get tables at ≡ Some t
+    → position_from (is_named t.schema_name t.table_name) from tables ≡ Some (from + at)
+at_from [] from at t distinct found = cc
+at_from (a ∷ tables) from zero t distinct found =
+    let same : a ≡ t = cc in
+    let named = and_from _ _ (same_text t.schema_name) (same_text t.table_name) in
+    subst (λ u. position_from (is_named t.schema_name t.table_name) from (u ∷ tables) ≡ Some (from + 0)) (sym same)
+    (cond-true (is_named t.schema_name t.table_name t) (Some from) _ named ∙ ap Some (omega arith))
+at_from (a ∷ tables) from (suc at) t distinct found =
+    let differ = and_parts _ _ distinct in
+    let other = none_at (has_same_names a) tables at t (not-true _ differ.0) found in
+    cond-false (is_named t.schema_name t.table_name a) (Some from) _ other ∙ at_from tables (from + 1) at t differ.1 found ∙ ap Some (omega arith)
+
+-- each table of a schema is found by its names
+pub place_of-at : (tables : List Table) (place : ℕ) (t : Table) → is_lawful tables ≡ true → slice_get tables place ≡ Some t
+    → place_of t.schema_name t.table_name tables ≡ Some place
+place_of-at tables place t lawful found =
+    position_from-zero (is_named t.schema_name t.table_name) tables ∙ at_from tables 0 place t (tables_are_distinct tables lawful) found ∙ ap Some (omega arith)

@@ -7,7 +7,7 @@ use Rattle.serde_json.specs.Events.{items_len}
 use Rattle.serde_json.specs.Find.{as_array, get}
 use Rattle.voy_json.specs.Document.{data_of_bytes}
 use Rattle.voy_schema.specs.Lawful.{is_distinct, is_name, is_named}
-use Rattle.voy_schema.specs.Stated.{in_front, is_exact, stated_table}
+use Rattle.voy_schema.specs.Stated.{is_exact, stated_table}
 use Rattle.voy_schema.specs.declared.stated.StatedColumn.{StatedColumn}
 use Rattle.voy_schema.specs.declared.stated.StatedKey.{StatedKey}
 use Rattle.voy_schema.specs.declared.stated.StatedTable.{StatedTable}
@@ -55,8 +55,9 @@ has_lawful_counts s = nat_le 1 (length s.columns) && nat_le (length s.columns) 6
 abbrev pub has_lawful_names : StatedTable → Bool
 has_lawful_names s = is_name s.schema_name && is_name s.table_name && list_all is_name (names_of s.columns)
 
-abbrev pub has_known_type : StatedColumn → Bool
-has_known_type c = is_some (kind_named c.kind)
+-- each column's type is one of the four
+abbrev pub has_known_types : StatedTable → Bool
+has_known_types s = list_all (λ (c : StatedColumn). is_some (kind_named c.kind)) s.columns
 
 -- no column name stands twice, no column stands twice in one key, and no table before has both names
 abbrev pub has_no_repeat : List Table → StatedTable → Bool
@@ -104,17 +105,26 @@ table_of s = record {
   unique_keys = map (unique_key_of s.columns) s.unique_keys;
 }
 
--- a stated table behind these ones, or the first rule that it breaks
+-- the first rule that a table behind these ones breaks, of those that speak of a table of the right shape
+abbrev pub broken_rule : List Table → StatedTable → Option SchemaWhy
+broken_rule earlier s =
+    if not (has_lawful_counts s) then Some why.TooMany
+    else if not (has_lawful_names s) then Some why.BadName
+    else if not (has_known_types s) then Some why.BadType
+    else if not (has_no_repeat earlier s) then Some why.Repeated
+    else if not (has_known_columns s) then Some why.NoColumn
+    else if not (has_whole_keys s) then Some why.NoKey
+    else None
+
+-- what stands where no rule is broken
+abbrev pub unless : {A : Type 0} → Option SchemaWhy → A → Result A SchemaWhy
+unless (Some w) x = Err w
+unless None x = Ok x
+
+-- a table behind these ones, or the first rule that it breaks
 abbrev pub table_reading : List Table → Option StatedTable → Result Table SchemaWhy
 table_reading earlier None = Err why.Shape
-table_reading earlier (Some s) =
-    if not (has_lawful_counts s) then Err why.TooMany
-    else if not (has_lawful_names s) then Err why.BadName
-    else if not (list_all has_known_type s.columns) then Err why.BadType
-    else if not (has_no_repeat earlier s) then Err why.Repeated
-    else if not (has_known_columns s) then Err why.NoColumn
-    else if not (has_whole_keys s) then Err why.NoKey
-    else Ok (table_of s)
+table_reading earlier (Some s) = unless (broken_rule earlier s) (table_of s)
 
 -- the tables so far with one more, or the number of the one that breaks a rule, from 1
 abbrev pub with_table : List Table → Result Table SchemaWhy → Result (List Table) (ℕ × SchemaWhy)
@@ -123,8 +133,8 @@ with_table earlier (Err w) = Err (length earlier + 1, w)
 
 -- the tables so far with those that the items state, one after the other up to the first that breaks a rule
 abbrev pub tables_reading : Result (List Table) (ℕ × SchemaWhy) → Items → Result (List Table) (ℕ × SchemaWhy)
-tables_reading reading no_items = reading
-tables_reading (Err refusal) (item d ds) = Err refusal
+tables_reading (Err refusal) ds = Err refusal
+tables_reading (Ok earlier) no_items = Ok earlier
 tables_reading (Ok earlier) (item d ds) = tables_reading (with_table earlier (table_reading earlier (stated_table d))) ds
 
 unfoldable pub document_names : List (List ℕ)
@@ -134,11 +144,15 @@ document_names = codes "tables" ∷ []
 abbrev pub stated_items : Data → Option Items
 stated_items d = if is_exact document_names d then option_and_then as_array (get (codes "tables") d) else None
 
+-- 1 to 256 items
+abbrev pub has_lawful_count : Items → Bool
+has_lawful_count items = nat_le 1 (items_len items) && nat_le (items_len items) 256
+
 -- the document has the number 0
 abbrev pub items_reading : Option Items → Result (List Table) (ℕ × SchemaWhy)
 items_reading None = Err (0, why.Shape)
 items_reading (Some items) =
-    if nat_le 1 (items_len items) && nat_le (items_len items) 256 then tables_reading (Ok []) items else Err (0, why.TooMany)
+    if not (has_lawful_count items) then Err (0, why.TooMany) else tables_reading (Ok []) items
 
 abbrev pub document_reading : Option Data → Result (List Table) (ℕ × SchemaWhy)
 document_reading None = Err (0, why.NotJson)
@@ -152,8 +166,3 @@ schema_reading bytes = document_reading (data_of_bytes bytes)
 abbrev pub RefusesTables : Result (List Table) (ℕ × SchemaWhy) → SchemaError → Type 0
 RefusesTables reading (Bad table w) = reading ≡ Err (table, w)
 RefusesTables reading NoMemory = Unit {0}
-
--- f of each item, if all of them pass the test
-abbrev pub map_if_all : {A B : Type 0} → (A → Bool) → (A → B) → List A → Option (List B)
-map_if_all test f [] = Some []
-map_if_all test f (x ∷ xs) = if test x then in_front (Some (f x)) (map_if_all test f xs) else None

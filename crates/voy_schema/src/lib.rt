@@ -5,6 +5,7 @@
 //! the list of its items, so that two values are equal exactly where they hold the same.
 #![tactic(auto)]
 
+mod building;
 mod copying;
 mod distinct;
 mod items;
@@ -14,6 +15,7 @@ mod lawful;
 mod limits;
 mod names;
 mod numbers;
+mod reading;
 mod rows;
 mod rules;
 mod schema;
@@ -33,3 +35,6 @@ pub use table::{Column, Columns, Kind, Places, Table, Tables, UniqueKey, UniqueK
 pub use text::Text;
 pub use value::{Bytes, Key, Row, Rows, Value};
 pub use why::{SchemaError, SchemaWhy};
+
+#[cfg(test)]
+mod tests;

@@ -1,11 +1,14 @@
-ghost use Rattle.std.specs.Prelude.{◌≡◌, ◌<◌, true, false, length, slice_get, IfSome, MatchOption};
+ghost use Rattle.std.specs.Prelude.{◌≡◌, ◌<◌, true, false, length, slice_get, IfErr, IfOk, IfSome, MatchOption};
 ghost use Rattle.std.specs.Option.{option_copied};
 ghost use Rattle.voy_schema.specs.Lawful.{is_lawful, is_lawful_table, place_of};
+ghost use Rattle.voy_schema.specs.Reading.{RefusesTables, schema_reading};
 
 use crate::copying::Copies;
 use crate::lawful;
+use crate::reading::read_schema;
 use crate::table::{Table, Tables};
-use std::alloc::AllocError;
+use crate::why::SchemaError;
+use std::alloc::{AllocError, Global};
 
 /// The tables of a move, in the order of `schema.json`. A table is named by its place there, from 0.
 ///
@@ -29,9 +32,22 @@ impl Schema {
         }
     }
 
+    /// The schema that the bytes of `schema.json` state.
+    ///
+    /// `SchemaError::Bad` comes exactly where a rule is broken. The document itself is tried first, then
+    /// its tables in their order, and within a table the rules in the order of [`SchemaWhy`].
+    pub fn read(alloc: Global, bytes: &[u8]) -> Result<Schema, SchemaError>
+        ensures ok { IfOk result (λ s. schema_reading bytes.now ≡ Ok s.tables) }
+        ensures err { IfErr result (RefusesTables (schema_reading bytes.now)) }
+    {
+        let tables = read_schema(alloc, bytes)?;
+        Ok(Schema { tables })
+    }
+
     /// The place of the table with these names, from 0. `None` where there is none.
     pub fn find(&self, schema_name: &str, table_name: &str) -> Option<u32>
-        ensures { result ≡ place_of schema_name.now table_name.now self.now.tables }
+        ensures value { result ≡ place_of schema_name.now table_name.now self.now.tables }
+        ensures within { IfSome result (λ place. place < length self.now.tables) }
     {
         for (place, table) in self.tables.as_slice().iter().enumerate() {
             if table.is_named(schema_name, table_name) {
