@@ -11,3 +11,4 @@ pub mod TurnLemmas
 pub mod ReaderLemmas
 pub mod ReadingLemmas
 pub mod FieldLemmas
+pub mod BackLemmas

@@ -7,3 +7,4 @@ pub mod Standing
 pub mod Laws
 pub mod Unread
 pub mod Readings
+pub mod RowLaws

@@ -26,6 +26,7 @@ pub use forming::well_formed;
 pub use keys::key_of;
 pub use laws::{
     empty_lists_have_no_rows, folds_agree, lists_are_tables, misfit_is_none_where_it_fits,
+    recorded_rows_are_lawful, row_text_reads_back, rows_read_back,
 };
 pub use plain::Plain;
 pub use reading::{read_recorded, read_rows};
