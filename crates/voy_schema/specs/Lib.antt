@@ -5,3 +5,4 @@ pub mod Lending
 pub mod LawfulLaws
 pub mod Stated
 pub mod Reading
+pub mod TextLaws

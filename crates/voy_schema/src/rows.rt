@@ -38,7 +38,8 @@ fn has_lawful_values(columns: &[Column], values: &[Value]) -> bool
     true
 }
 
-fn has_whole_key(table: &Table, row: &Row) -> bool
+/// Whether none of the key columns is NULL.
+pub fn has_whole_key(table: &Table, row: &Row) -> bool
     ensures { result ≡ has_whole_key table.now row.now }
 {
     table

@@ -9,3 +9,6 @@ pub mod DoneLemmas
 pub mod FitLemmas
 pub mod TurnLemmas
 pub mod ReaderLemmas
+pub mod ReadingLemmas
+pub mod FieldLemmas
+pub mod BackLemmas

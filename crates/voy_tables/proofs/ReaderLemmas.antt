@@ -19,7 +19,7 @@ pub took : (a b : Source) (fields : List (List ℕ)) → IsReading a
 unfolding Reached
 took a b fields before read first turns =
     let more = rows-more (chain_remaining (λ s. Some s.now) (λ s. Some s.now)) a.rdr b.rdr fields default_config a.rdr.state before.bytes before.bytes []
-        before.by_default before.are_unread (refl, refl) read in
+    before.by_default before.are_unread (refl, refl) read in
     let p = more.2.0 in
     let found = more.2.1 in
     let same = more.2.3 in

@@ -6,3 +6,5 @@ pub mod RowText
 pub mod Standing
 pub mod Laws
 pub mod Unread
+pub mod Readings
+pub mod RowLaws

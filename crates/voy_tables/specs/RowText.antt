@@ -1,5 +1,5 @@
 -- The text of a row: its fields with commas between, ended by LF, as `csv` writes them by default.
-use Rattle.std.specs.Prelude.{ℕ, Bool, false, List, [], ◌∷◌, ◌==◌, codes, length, map, nat_lt, if◌then◌else◌}
+use Rattle.std.specs.Prelude.{ℕ, Bool, false, List, [], ◌∷◌, ◌++◌, ◌==◌, codes, length, map, nat_lt, if◌then◌else◌}
 use Rattle.csv.specs.Writing.{default_writer, row_text}
 use Rattle.voy_schema.specs.declared.value.Value.{Value}
 use Rattle.voy_schema.specs.declared.value.Value.TheVariants.{Null, Text}
@@ -19,6 +19,11 @@ field_of (Text t) = text_field t
 
 unfoldable pub row_line : List Value → List ℕ
 row_line row = row_text default_writer (map field_of row)
+
+-- the texts of these rows, one after the other
+abbrev pub row_lines : List (List Value) → List ℕ
+row_lines [] = []
+row_lines (row ∷ rows) = row_line row ++ row_lines rows
 
 -- the most bytes that the text of a row may have, its LF counted
 abbrev pub max_row_text_bytes : ℕ

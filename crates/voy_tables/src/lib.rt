@@ -4,22 +4,32 @@
 #![tactic(auto)]
 
 mod change;
+mod escaping;
+mod field_value;
 mod fitting;
 mod forming;
+mod header;
 mod keys;
 mod laws;
 mod placing;
 mod plain;
+mod reading;
 mod record_reader;
+mod record_row;
+mod row_error;
 mod row_size;
 mod row_text;
+mod text_record;
 
 pub use change::{Change, Misfit, PlainError, Role, RowLists, Side, Spot};
 pub use forming::well_formed;
 pub use keys::key_of;
 pub use laws::{
     empty_lists_have_no_rows, folds_agree, lists_are_tables, misfit_is_none_where_it_fits,
+    recorded_rows_are_lawful, row_text_reads_back, rows_read_back,
 };
 pub use plain::Plain;
+pub use reading::{read_recorded, read_rows};
+pub use row_error::{RowError, RowWhy};
 pub use row_size::{MAX_ROW_TEXT_BYTES, row_text_is_too_long};
 pub use row_text::write_row;

@@ -8,7 +8,7 @@ use std::io::{Chain, Read};
 use std::marker::Model;
 
 /// A byte order mark. `csv` drops one at the start of what it reads, so it is given one more.
-const MARK: &[u8] = b"\xEF\xBB\xBF";
+pub(crate) const MARK: &[u8] = b"\xEF\xBB\xBF";
 
 /// The records of a text, one after the other, as `csv` finds them by default. Contracts see those that
 /// are left. After an error there are none.

@@ -1,17 +1,13 @@
 ghost use Rattle.std.specs.Prelude.{◌≡◌, ◌==◌, ◌+◌, count_by, ◌<◌, ◌≤◌, length, MatchOption};
 ghost use Rattle.csv.specs.Quoting.{needs_byte};
 ghost use Rattle.csv.specs.Writing.{default_writer, field_text, needs_quotes};
-ghost use Rattle.voy_tables.specs.RowText.{field_of, is_too_long, starts_with_backslash, text_field};
+ghost use Rattle.voy_tables.specs.RowText.{field_of, is_too_long, text_field};
 
+use crate::escaping::{NULL_FIELD, begins_with_backslash};
 use voy_schema::{Row, Value};
 
 /// The most bytes that the text of a row may have, its LF counted. A longer row is refused where it is read.
 pub const MAX_ROW_TEXT_BYTES: usize = 1_048_576;
-
-const BACKSLASH: u8 = b'\\';
-
-/// The bytes of the field `\N`, which stands for NULL.
-const NULL_FIELD_BYTES: usize = 2;
 
 /// Whether the text of `row` has more than [`MAX_ROW_TEXT_BYTES`] bytes. It takes no memory.
 pub fn row_text_is_too_long(row: &Row) -> bool
@@ -37,7 +33,7 @@ fn field_size(value: &Value, most: usize) -> Option<usize>
     ensures { MatchOption result (most < length (field_text default_writer (field_of value.now))) (λ size. size ≡ length (field_text default_writer (field_of value.now))) }
 {
     match value {
-        Value::Null => Some(NULL_FIELD_BYTES),
+        Value::Null => Some(NULL_FIELD.len()),
         Value::Text(text) => text_size(text.as_str().as_bytes(), most),
     }
 }
@@ -55,12 +51,6 @@ fn text_size(text: &[u8], most: usize) -> Option<usize>
     } else {
         Some(size)
     }
-}
-
-fn begins_with_backslash(text: &[u8]) -> bool
-    ensures { result ≡ starts_with_backslash text.now }
-{
-    text.first() == Some(&BACKSLASH)
 }
 
 /// The bytes that quoting adds to a field: the two quotes and one more for each quote in it, or none.

@@ -3,14 +3,10 @@ ghost use Rattle.csv.specs.Records.{fields_of, partial_of};
 ghost use Rattle.csv.specs.Writing.{default_writer, row_text};
 ghost use Rattle.voy_tables.specs.RowText.{field_of, row_line, text_field};
 
+use crate::escaping::{BACKSLASH, NULL_FIELD, begins_with_backslash};
 use csv::{ByteRecord, WriterBuilder};
 use std::alloc::{AllocError, Global};
 use voy_schema::{Bytes, Row, Value};
-
-/// The field that stands for NULL, which no text has.
-const NULL_FIELD: &[u8] = b"\\N";
-
-const BACKSLASH: u8 = b'\\';
 
 /// Appends the text of `row` to `to`: its fields with commas between, ended by LF. NULL is the field
 /// `\N`, and a text that begins with a backslash has one more in front. A row of no values, which no
@@ -54,7 +50,7 @@ fn push_text(alloc: Global, text: &[u8], line: &mut ByteRecord) -> Result<(), Al
     ensures fields { OnOk result (fields_of line.new ≡ fields_of line.old ++ text_field text.now ∷ []) }
     ensures whole { OnOk result (partial_of line.new ≡ []) }
 {
-    if text.first() != Some(&BACKSLASH) {
+    if !begins_with_backslash(text) {
         return line.push_field(text);
     }
     let mut escaped = Vec::new(alloc);
