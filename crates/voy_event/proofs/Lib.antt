@@ -1,1 +1,4 @@
 pub mod FloatLemmas
+pub mod MemberLemmas
+pub mod KeyLemmas
+pub mod CanonicalLemmas
