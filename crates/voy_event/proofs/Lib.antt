@@ -2,3 +2,4 @@ pub mod FloatLemmas
 pub mod MemberLemmas
 pub mod KeyLemmas
 pub mod CanonicalLemmas
+pub mod ReadBack
