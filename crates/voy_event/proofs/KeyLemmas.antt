@@ -59,8 +59,8 @@ others_differ t place c [] distinct found other = refl
 others_differ t place c (p ∷ places) distinct found other =
     let parts = or_parts (nat_eq place p) (list_any (nat_eq place) places) other in
     let here = is_other (is_name_at t c.name p) (λ named.
-        let there = named_here c.name (slice_get t.columns p) named in
-        eqb-false place p parts.0 (one_place t.columns place p c there.0 distinct found there.1 there.2)) in
+    let there = named_here c.name (slice_get t.columns p) named in
+    eqb-false place p parts.0 (one_place t.columns place p c there.0 distinct found there.1 there.2)) in
     rw here (others_differ t place c places distinct found parts.1)
 
 -- ---- the text of a key column
@@ -100,11 +100,11 @@ agrees-with_texts t row (place ∷ places) ms distinct once within =
     let members = with_text (slice_get t.columns place) text ms in
     let put_in : members ≡ put c.name (string text) ms = ap (λ o. with_text o text ms) column.1 in
     let found : get_member c.name (with_texts t row places members) ≡ Some (string text) =
-        texts_kept t row c.name places members (others_differ t place c places distinct column.1 (not-true _ apart.0))
-        ∙ ap (get_member c.name) put_in ∙ get_member-put c.name (string text) ms in
+    texts_kept t row c.name places members (others_differ t place c places distinct column.1 (not-true _ apart.0))
+    ∙ ap (get_member c.name) put_in ∙ get_member-put c.name (string text) ms in
     let here : agrees_at t (object (with_texts t row places members)) row place ≡ true =
-        ap (λ o. option_map_or (λ (x : Column). option_map_or (bytes_eq text) (text_at x.name (object (with_texts t row places members))) false) o false) column.1
-        ∙ text_agrees text (get_member c.name (with_texts t row places members)) found in
+    ap (λ o. option_map_or (λ (x : Column). option_map_or (bytes_eq text) (text_at x.name (object (with_texts t row places members))) false) o false) column.1
+    ∙ text_agrees text (get_member c.name (with_texts t row places members)) found in
     and_from _ _ here (agrees-with_texts t row places members distinct apart.1 inside.1)
 
 agrees_alike : (t : Table) (key : Data) (before after : List Value) (place : ℕ) → text_of (value_at before place) ≡ text_of (value_at after place)

@@ -73,11 +73,11 @@ names_of-put p k d no_members named all = and_from (p k) true named refl
 names_of-put p k d (member l e ms) named all =
     let parts = and_parts (p l) (list_all p (names_of_members ms)) all in
     by_order (slice_cmp nat_cmp k l) (names_of-put p k d ms named parts.1) where
-  by_order : (o : Ordering) → list_all p (names_of_members (put k d ms)) ≡ true
-      → list_all p (names_of_members (match_ordering o (member k d (member l e ms)) (member l d ms) (member l e (put k d ms)))) ≡ true
-  by_order Less later = and_from (p k) (list_all p (names_of_members (member l e ms))) named all
-  by_order Equal later = all
-  by_order Greater later = and_from (p l) (list_all p (names_of_members (put k d ms))) (and_parts (p l) (list_all p (names_of_members ms)) all).0 later
+      by_order : (o : Ordering) → list_all p (names_of_members (put k d ms)) ≡ true
+          → list_all p (names_of_members (match_ordering o (member k d (member l e ms)) (member l d ms) (member l e (put k d ms)))) ≡ true
+      by_order Less later = and_from (p k) (list_all p (names_of_members (member l e ms))) named all
+      by_order Equal later = all
+      by_order Greater later = and_from (p l) (list_all p (names_of_members (put k d ms))) (and_parts (p l) (list_all p (names_of_members ms)) all).0 later
 
 pub names_of-with_columns : (p : List ℕ → Bool) (cs : List Column) (row : List Value) (ms : Members) → list_all (λ (c : Column). p c.name) cs ≡ true
     → list_all p (names_of_members ms) ≡ true → list_all p (names_of_members (with_columns cs row ms)) ≡ true

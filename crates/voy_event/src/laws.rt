@@ -4,5 +4,4 @@ ghost use Rattle.voy_event.specs.Laws.{EventsReadBack};
 /// same event, for every schema and every line within its limit. There is nothing to run.
 pub fn events_read_back()
     ensures { EventsReadBack }
-{
-}
+{}

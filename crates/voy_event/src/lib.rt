@@ -17,10 +17,9 @@ mod line_error;
 mod line_text;
 mod recorded;
 mod recorded_line;
-mod words;
-
 #[cfg(test)]
 mod tests;
+mod words;
 
 pub use event::{Event, What};
 pub use event_line::read_line;
