@@ -29,11 +29,11 @@ put_no_float k d no_members value members = neither (has_float d) false value re
 put_no_float k d (member l e ms) value members =
     let parts = or_parts (has_float e) (members_have_float ms) members in
     by_order (slice_cmp nat_cmp k l) parts.0 (put_no_float k d ms value parts.1) where
-  by_order : (o : Ordering) → has_float e ≡ false → members_have_float (put k d ms) ≡ false
-      → members_have_float (match_ordering o (member k d (member l e ms)) (member l d ms) (member l e (put k d ms))) ≡ false
-  by_order Less other later = neither (has_float d) (members_have_float (member l e ms)) value members
-  by_order Equal other later = neither (has_float d) (members_have_float ms) value (or_parts (has_float e) (members_have_float ms) members).1
-  by_order Greater other later = neither (has_float e) (members_have_float (put k d ms)) other later
+      by_order : (o : Ordering) → has_float e ≡ false → members_have_float (put k d ms) ≡ false
+          → members_have_float (match_ordering o (member k d (member l e ms)) (member l d ms) (member l e (put k d ms))) ≡ false
+      by_order Less other later = neither (has_float d) (members_have_float (member l e ms)) value members
+      by_order Equal other later = neither (has_float d) (members_have_float ms) value (or_parts (has_float e) (members_have_float ms) members).1
+      by_order Greater other later = neither (has_float e) (members_have_float (put k d ms)) other later
 
 value_has_no_float : (v : Value) → has_float (value_data v) ≡ false
 value_has_no_float Null = refl

@@ -1,1 +1,5 @@
 pub mod FloatLemmas
+pub mod MemberLemmas
+pub mod KeyLemmas
+pub mod CanonicalLemmas
+pub mod ReadBack

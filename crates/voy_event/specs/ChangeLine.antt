@@ -66,7 +66,7 @@ change_of Insert t d =
     else None
 change_of Update t d =
     option_and_then (λ before. option_map (change.Update t.place before) (row_at t.table (codes "fields") d))
-        (row_at t.table (codes "before_fields") d)
+    (row_at t.table (codes "before_fields") d)
 change_of Delete t d =
     if is_null (get (codes "fields") d)
     then option_map (change.Delete t.place) (row_at t.table (codes "before_fields") d)

@@ -25,7 +25,7 @@ use Rattle.voy_tables.specs.declared.change.Role.TheVariants as exporter
 use Rattle.voy_event.specs.ChangeLine.{PlacedTable, change_of, has_long_row, known_reading, named_reading, placed, table_named, table_reading, within_limit}
 use Rattle.voy_event.specs.EventLine.{change_event, change_event_names, cutover_event, cutover_names, cutover_vsn, document_reading, from_one, has_exporter, kind_reading, line_reading, max_event_line_bytes, stamped, vsn_at}
 use Rattle.voy_event.specs.Fields.{agrees_at, is_key_of_row, is_null, only_if, row_at, row_of, row_with_key}
-use Rattle.voy_event.specs.LawfulEvent.{IsLawful, IsLawfulChange, IsLawfulFrom}
+use Rattle.voy_event.specs.LawfulEvent.{IsLawful, IsLawfulChange, IsLawfulFrom, IsWritable, IsWritableWhat}
 use Rattle.voy_event.specs.Words.{event_kind, in_64_bits, number_at, role_at, text_at}
 use Rattle.voy_event.specs.declared.event.Event.{Event}
 use Rattle.voy_event.specs.declared.event.What.{What}
@@ -245,11 +245,11 @@ cutover_vsn_holds role d n read =
     let last = if has_exporter role d then ok_or (vsn_at d) why.BadValue else Err why.BadValue in
     let known = past_test (not (has_names cutover_names d)) why.Missing (if not (has_only_names cutover_names d) then Err why.Unknown else last) n read in
     let named = before_refusal (has_exporter role d) why.BadValue (ok_or (vsn_at d) why.BadValue) n
-        (past_test (not (has_only_names cutover_names d)) why.Unknown last n known) in
+    (past_test (not (has_only_names cutover_names d)) why.Unknown last n known) in
     vsn_holds d n (some_since (vsn_at d) named.1) where
-  some_since : (o : Option ℕ) → ok_or o why.BadValue ≡ Ok n → o ≡ Some n
-  some_since None read = cc
-  some_since (Some m) read = cc
+      some_since : (o : Option ℕ) → ok_or o why.BadValue ≡ Ok n → o ≡ Some n
+      some_since None read = cc
+      some_since (Some m) read = cc
 
 cutover_is_lawful : (tables : List Table) (role : Role) (w : What) (read : Result ℕ LineWhy) (e : Event)
     → ((n : ℕ) → read ≡ Ok n → (1 ≤ n) × (n < 2 ^ 64)) → IsLawfulFrom tables role w → cutover_event role w read ≡ Ok e → IsLawful tables e
@@ -276,3 +276,13 @@ document_is_lawful tables (Some d) e read = kind_is_lawful tables d (event_kind 
 pub event_is_lawful : (tables : List Table) (bytes : List ℕ) (e : Event) → line_reading tables bytes ≡ Ok e → IsLawful tables e
 event_is_lawful tables bytes e read =
     document_is_lawful tables (data_of_bytes bytes) e (past_test (nat_lt max_event_line_bytes (length bytes)) why.TooLong _ e read)
+
+-- ---- an event that was read may be written
+
+what_is_writable : (tables : List Table) (role : Role) (w : What) → IsLawfulFrom tables role w → IsWritableWhat tables w
+what_is_writable tables role (what.Change c) lawful = lawful.well_formed
+what_is_writable tables role what.CutoverTarget lawful = tt
+what_is_writable tables role what.CutoverSource lawful = tt
+
+pub lawful_is_writable : (tables : List Table) (e : Event) → IsLawful tables e → IsWritable tables e
+lawful_is_writable tables e lawful = record { from_one = lawful.from_one; what = what_is_writable tables e.role e.what lawful.what }

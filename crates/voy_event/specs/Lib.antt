@@ -8,3 +8,4 @@ pub mod EventLaws
 pub mod RecordedLine
 pub mod RecordedLaws
 pub mod LineText
+pub mod Laws

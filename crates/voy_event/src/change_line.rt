@@ -5,12 +5,12 @@ ghost use Rattle.voy_event.specs.Refusal.{Refuses};
 
 use crate::fields::{has_only_columns, is_null, row_at};
 use crate::line_error::{LineError, LineWhy};
-use crate::words::{text_at, Op};
+use crate::words::{Op, text_at};
 use serde_json::Value as Json;
 use std::alloc::{AllocError, Global};
 use voy_json::{has_all, has_only};
 use voy_schema::{Schema, Table};
-use voy_tables::{row_text_is_too_long, Change};
+use voy_tables::{Change, row_text_is_too_long};
 
 /// A table of the schema, with its place there.
 #[derive(Clone, Copy)]

@@ -9,10 +9,10 @@ use crate::change_line::{read_row_change, table_of_line};
 use crate::event::{Event, What};
 use crate::limits::MAX_EVENT_LINE_BYTES;
 use crate::line_error::{LineError, LineWhy};
-use crate::words::{event_kind, number_at, role_at, text_at, text_of_role, EventKind, Op};
+use crate::words::{EventKind, Op, event_kind, number_at, role_at, text_at, text_of_role};
 use serde_json::Value as Json;
 use std::alloc::Global;
-use voy_json::{has_all, has_only, parse, ParseError};
+use voy_json::{ParseError, has_all, has_only, parse};
 use voy_schema::Schema;
 use voy_tables::Role;
 

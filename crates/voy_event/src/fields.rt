@@ -8,7 +8,7 @@ ghost use Rattle.voy_event.specs.Fields.{agrees_at, is_column, is_key_column, is
 use crate::words::text_at;
 use serde_json::Value as Json;
 use std::alloc::{AllocError, Global};
-use voy_schema::{is_lawful_row, Column, Items, Row, Table, Text, Value};
+use voy_schema::{Column, Items, Row, Table, Text, Value, is_lawful_row};
 
 /// Whether the object that may stand there has no name but those of the table's columns. Of what is no
 /// object nothing is asked.
@@ -72,11 +72,7 @@ pub(crate) fn row_at(
 }
 
 /// The values that the object has in these columns, in their order.
-fn row_of(
-    alloc: Global,
-    columns: &[Column],
-    fields: &Json,
-) -> Result<Option<Row>, AllocError>
+fn row_of(alloc: Global, columns: &[Column], fields: &Json) -> Result<Option<Row>, AllocError>
     ensures { IfOk result (λ found. found ≡ row_of columns.now (view fields.now)) }
 {
     let mut row = Items::new(alloc);

@@ -11,18 +11,19 @@ mod change_line;
 mod event;
 mod event_line;
 mod fields;
+mod laws;
 mod limits;
 mod line_error;
 mod line_text;
 mod recorded;
 mod recorded_line;
-mod words;
-
 #[cfg(test)]
 mod tests;
+mod words;
 
 pub use event::{Event, What};
 pub use event_line::read_line;
+pub use laws::events_read_back;
 pub use limits::{MAX_EVENT_LINE_BYTES, MAX_RECORDED_LINE_BYTES};
 pub use line_error::{LineError, LineWhy};
 pub use line_text::write_line;

@@ -4,8 +4,8 @@ ghost use Rattle.voy_schema.specs.Rows.{text_of, value_at};
 ghost use Rattle.voy_event.specs.LawfulEvent.{IsWritable, IsWritableChange};
 ghost use Rattle.voy_event.specs.LineText.{after_data, before_data, change_data, cutover_data, event_data, key_data, keyed_row, line_text, op_text, row_data, table_of, value_data, with_text};
 
-use crate::fields::text_in;
 use crate::event::{Event, What};
+use crate::fields::text_in;
 use crate::words::text_of_role;
 use serde_json::{Map, Value as Json, json};
 use std::alloc::{AllocError, Global};

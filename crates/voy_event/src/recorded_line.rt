@@ -9,10 +9,10 @@ use crate::change_line::{read_row_change, table_of_line};
 use crate::limits::MAX_RECORDED_LINE_BYTES;
 use crate::line_error::{LineError, LineWhy};
 use crate::recorded::Recorded;
-use crate::words::{change_op, number_at, Op};
+use crate::words::{Op, change_op, number_at};
 use serde_json::Value as Json;
 use std::alloc::Global;
-use voy_json::{parse, ParseError};
+use voy_json::{ParseError, parse};
 use voy_schema::Schema;
 use voy_tables::Spot;
 
@@ -61,12 +61,7 @@ fn read_document(alloc: Global, schema: &Schema, line: &Json) -> Result<Recorded
 }
 
 #[tactic(auto, unfolding(crate::specs::RecordedLine::recorded_names))]
-fn read_recorded(
-    alloc: Global,
-    schema: &Schema,
-    op: Op,
-    line: &Json,
-) -> Result<Recorded, LineError>
+fn read_recorded(alloc: Global, schema: &Schema, op: Op, line: &Json) -> Result<Recorded, LineError>
     ensures ok { IfOk result (λ recorded. recorded_change op (view line.now) (table_reading schema.now.tables recorded_names (view line.now)) ≡ Ok recorded) }
     ensures err { IfErr result (Refuses (recorded_change op (view line.now) (table_reading schema.now.tables recorded_names (view line.now)))) }
 {

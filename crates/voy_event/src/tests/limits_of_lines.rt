@@ -30,7 +30,11 @@ fn a_recorded_line_of_the_most_bytes_is_looked_at(rt: HostRuntime) -> Result<(),
     for (length, wanted) in [(4_194_304, "not json"), (4_194_305, "too long")] {
         let bytes = vec![in alloc; b' '; length]?;
         let read = read_change(alloc, &schema, bytes.as_slice());
-        assert_eq!(rt; shown_recorded(alloc, &read)?.as_str(), wanted, "at {length}");
+        assert_eq!(rt;
+            shown_recorded(alloc, &read)?.as_str(),
+            wanted,
+            "at {length}"
+        );
     }
     Ok(())
 }
@@ -47,7 +51,9 @@ fn a_row_text_past_its_limit_is_refused_last(rt: HostRuntime) -> Result<(), Fail
         (1_048_574, "1", "2", "bad value"),
     ] {
         let email = String::from_utf8(vec![in alloc; b'a'; length]?).map_err(|_| "a text")?;
-        let line = format!(in alloc; "{{\"commit\":1,\"seq\":{seq},\"op\":\"c\",\"schema_name\":\"public\",\"table_name\":\"users\",\"key\":{{\"id\":\"{key}\"}},\"fields\":{{\"id\":\"1\",\"email\":\"{email}\"}},\"before_fields\":null}}")?;
+        let line = format!(in alloc;
+            "{{\"commit\":1,\"seq\":{seq},\"op\":\"c\",\"schema_name\":\"public\",\"table_name\":\"users\",\"key\":{{\"id\":\"{key}\"}},\"fields\":{{\"id\":\"1\",\"email\":\"{email}\"}},\"before_fields\":null}}"
+        )?;
         let read = read_change(alloc, &schema, line.as_bytes());
         let shown = shown_recorded(alloc, &read)?;
         assert!(rt; shown.as_str().starts_with(wanted), "at {length}");

@@ -3,18 +3,14 @@ use crate::event::{Event, What};
 use crate::line_error::LineError;
 use crate::recorded::Recorded;
 use std::alloc::{AllocError, Global};
-use voy_schema::{Column, Copies, Items, Kind, Row, Schema, Table, Text, Value};
+use voy_schema::{Column, Items, Kind, Row, Schema, Table, Text, Value};
 use voy_tables::{Change, Role};
 
 /// A line, a part of it with what stands in its place, and what is read.
-pub(super) type Case = (
-    &'static str,
-    &'static str,
-    &'static str,
-    &'static str,
-);
+pub(super) type Case = (&'static str, &'static str, &'static str, &'static str);
 
-/// `public.users` with a bigint key `id` and a text `email`, and `shop.pairs` with the key `b`, `a`.
+/// `public.users` with a bigint key `id` and a text `email`, `shop.pairs` with the key `b`, `a`, and
+/// `public.notes` with a text key `id` and a text `body`.
 pub(super) fn schema(alloc: Global) -> Result<Option<Schema>, AllocError> {
     let mut tables = Items::new(alloc);
     tables.push(table(
@@ -30,6 +26,13 @@ pub(super) fn schema(alloc: Global) -> Result<Option<Schema>, AllocError> {
         "pairs",
         &[("a", Kind::Text), ("b", Kind::Boolean), ("c", Kind::Bytea)],
         &[1, 0],
+    )?)?;
+    tables.push(table(
+        alloc,
+        "public",
+        "notes",
+        &[("id", Kind::Text), ("body", Kind::Text)],
+        &[0],
     )?)?;
     Ok(Schema::new(tables))
 }
@@ -60,7 +63,10 @@ fn table(
 }
 
 /// The event's vsn, role and change or cutover, or the text of the refusal.
-pub(super) fn shown_event(alloc: Global, read: &Result<Event, LineError>) -> Result<String, AllocError> {
+pub(super) fn shown_event(
+    alloc: Global,
+    read: &Result<Event, LineError>,
+) -> Result<String, AllocError> {
     match read {
         Ok(event) => {
             let role = match event.role {

@@ -26,7 +26,7 @@ none_left n columns row ms end = elim (cases_lt (length row) (length columns)) [
 pub returns : goal.returns
 returns c =
     let end : length c.loop-column.yielded ≡ min (length c.args.columns.now) (length c.args.row.now) =
-        zip_end c.args.columns.now c.args.row.now c.loop-column.yielded c.into_iter-column-iterator.result c.loop-column.column-iterator c.next.new.self
-        c.next.result (search rules) (search rules) c.loop-column.yielded_by c.in-None.is c.next.ensures.steps in
+    zip_end c.args.columns.now c.args.row.now c.loop-column.yielded c.into_iter-column-iterator.result c.loop-column.column-iterator c.next.new.self
+    c.next.result (search rules) (search rules) c.loop-column.yielded_by c.in-None.is c.next.ensures.steps in
     view-Object c.loop-column.found
     ∙ ap object (sym (c.loop-column.invariant ∙ none_left (length c.loop-column.yielded) c.args.columns.now c.args.row.now (members_view c.loop-column.found.entries) end))

@@ -10,5 +10,5 @@ returns-clause-ok c =
     let event = c.args.event.now in
     let whole = ap has_float c.in_ok-line.ensures ∙ event_has_no_float c.args.schema.now.tables event.vsn event.role event.what in
     let written : c.as_slice.result.now ≡ line_text c.args.schema.now.tables event =
-        c.as_slice.ensures.value ∙ c.in_ok-text.ensures.text whole ∙ ap compact_text c.in_ok-line.ensures in
+    c.as_slice.ensures.value ∙ c.in_ok-text.ensures.text whole ∙ ap compact_text c.in_ok-line.ensures in
     subst (λ (bytes : List ℕ). OnOk c.append_slice.result (c.append_slice.new.self ≡ c.args.to.now ++ bytes)) written c.append_slice.ensures.ok

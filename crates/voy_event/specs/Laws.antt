@@ -1,0 +1,13 @@
+-- The laws of event lines, each of which a public function proves.
+use Rattle.std.specs.Prelude.{◌≡◌, ◌≤◌, List, Ok, length, true}
+use Rattle.voy_schema.specs.Lawful.{is_lawful}
+use Rattle.voy_schema.specs.declared.table.Table.{Table}
+use Rattle.voy_event.specs.EventLine.{line_reading, max_event_line_bytes}
+use Rattle.voy_event.specs.LawfulEvent.{IsLawful}
+use Rattle.voy_event.specs.LineText.{line_text}
+use Rattle.voy_event.specs.declared.event.Event.{Event}
+
+-- the line that is written of a lawful event reads back as the event, where it is no longer than a line may be
+abbrev pub EventsReadBack : Type 0
+EventsReadBack = (tables : List Table) (e : Event) → is_lawful tables ≡ true → IsLawful tables e
+    → length (line_text tables e) ≤ max_event_line_bytes → line_reading tables (line_text tables e) ≡ Ok e
