@@ -96,10 +96,16 @@ is_refusal-line_refusal line why.BadValue = refl
 
 pub stops_no_next : (old : Fold) (line : List ℕ) (a : Answer) → IsNoNext old line a → Stops old line a
 stops_no_next old line a (inl memory) = inl memory
-stops_no_next old line a (inr refused) = inr (rw refused.2 (is_refusal-line_refusal (old.last + 1) refused.0), λ lines.
-    lines_refused old.plain.schema.tables old.plain.lists old.last old.ended line refused.0 lines refused.1 ∙ ap refusing (sym refused.2))
+stops_no_next old line a (inr refused) = inr (
+  rw refused.2 (is_refusal-line_refusal (old.last + 1) refused.0),
+  λ lines.
+      lines_refused old.plain.schema.tables old.plain.lists old.last old.ended line refused.0 lines refused.1 ∙ ap refusing (sym refused.2),
+)
 
 pub stops_no_fit : (old : Fold) (line : List ℕ) (e : Event) (a : Answer) → IsNext old line e → IsNoFit old e a → Stops old line a
 stops_no_fit old line e a next (inl memory) = inl memory
-stops_no_fit old line e a next (inr misfit) = inr (rw misfit.1 refl, λ lines.
-    lines_misfit old.plain.schema.tables old.plain.lists old.last old.ended line e lines next misfit.0 ∙ ap refusing (sym misfit.1))
+stops_no_fit old line e a next (inr misfit) = inr (
+  rw misfit.1 refl,
+  λ lines.
+      lines_misfit old.plain.schema.tables old.plain.lists old.last old.ended line e lines next misfit.0 ∙ ap refusing (sym misfit.1),
+)

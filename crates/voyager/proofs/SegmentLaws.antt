@@ -84,6 +84,7 @@ long_line f line rest long =
   where
     past : nat_lt max_event_line_bytes (length line) ≡ true
     past = grind (arith, nat_tests)
+
     stays : (lines : List (List ℕ)) → without_closing (line ∷ lines) ≡ line ∷ without_closing lines
     stays [] = rw (closing_is_short line long) refl
     stays (next ∷ lines) = refl

@@ -15,6 +15,7 @@ pub tables_text-ended : (tables : List Table) (lists : List (List (List Value)))
 tables_text-ended tables lists n ended = by_end which where
   which : (length tables ≤ n) ⊎ (length lists ≤ n)
   which = grind arith
+
   by_end : (length tables ≤ n) ⊎ (length lists ≤ n) → tables_text (drop n tables) (drop n lists) ≡ []
   by_end (inl past) = rw (drop_all n tables past) refl
   by_end (inr past) = rw (drop_all n lists past) (without_lists (drop n tables))

@@ -76,9 +76,9 @@ pub record IsAnswered {D K : Type 0} (files : D → Option Files) (faults : D �
   pub answer : Answer
   pub status : code ≡ status_of answer
   pub cause : IsAskedFor (asked_by words)
-    (ComesFrom (files old.place.export) (files old.place.recording) (Rose (faults old.place.export) (faults new.place.export))
-        (Rose (faults old.place.recording) (faults new.place.recording)) (Rose (failures old.out) (failures new.out)))
-    answer
+      (ComesFrom (files old.place.export) (files old.place.recording) (Rose (faults old.place.export) (faults new.place.export))
+      (Rose (faults old.place.recording) (faults new.place.recording)) (Rose (failures old.out) (failures new.out)))
+      answer
   pub printed : IsPrinted (files old.place.export) (files old.place.recording) (written old.out) (written new.out) answer
   pub told : GotFront (text_on_err answer) (written old.err) (written new.err)
   pub recording : files new.place.recording ≡ files old.place.recording

@@ -3,9 +3,8 @@ ghost use Rattle.voy_disk.specs.Written.{GotFront};
 ghost use Rattle.voyager.specs.Answer.{cause_text, status_of, text_on_err};
 ghost use Rattle.voyager.specs.Stops.{disk_stop};
 
-use std::alloc::{AllocError, Global};
-
 use itoa::Buffer;
+use std::alloc::{AllocError, Global};
 use voy_disk::{DiskError, Sink, write_all};
 use voy_event::LineWhy;
 use voy_schema::{Bytes, SchemaWhy};
@@ -140,12 +139,7 @@ impl Cause {
 }
 
 /// Appends the refusal of a line, with the words for its cause.
-fn append_refusal(
-    front: &[u8],
-    line: u64,
-    why: &str,
-    to: &mut Bytes,
-) -> Result<(), AllocError>
+fn append_refusal(front: &[u8], line: u64, why: &str, to: &mut Bytes) -> Result<(), AllocError>
     ensures { OnOk result (to.new ≡ to.old ++ (front.now ++ decimal line ++ codes ": " ++ why.now ++ codes "\n")) }
 {
     append_numbered(front, line, b": ", to)?;

@@ -1,13 +1,11 @@
 ghost use Rattle.std.specs.Prelude.{map, string_bytes};
 ghost use Rattle.voyager.specs.Answered.{IsAnswered};
 
-use std::alloc::Global;
-
-use voy_disk::{Disk, Place, Sink};
-
 use crate::answer::Answer;
 use crate::dry_run::dry_run;
 use crate::words::{Asked, read_words};
+use std::alloc::Global;
+use voy_disk::{Disk, Place, Sink};
 
 /// Does the one command that these words ask for, prints its text to `out` and a refusal to `err`, and
 /// gives the exit status.

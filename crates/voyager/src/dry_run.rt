@@ -7,17 +7,15 @@ ghost use Rattle.voyager.specs.Folding.{outcome_from};
 ghost use Rattle.voyager.specs.Segment.{event_lines};
 ghost use Rattle.voyager.specs.Stops.{StopsBy};
 
-use std::alloc::Global;
-
-use voy_disk::{Disk, Sink};
-use voy_files::read_file;
-use voy_schema::{Schema, SchemaError};
-
 use crate::answer::{Answer, Cause, Which, disk_stop};
 use crate::fold::Fold;
 use crate::names::{metadata_file, schema_file};
 use crate::print::print_fold;
 use crate::segment::fold_segment;
+use std::alloc::Global;
+use voy_disk::{Disk, Sink};
+use voy_files::read_file;
+use voy_schema::{Schema, SchemaError};
 
 /// The dry run without metadata: folds the exported segment by the recorded schema, and prints the rows
 /// and whether the cutover event was reached.
@@ -48,11 +46,7 @@ pub fn dry_run<D: Disk, K: Sink>(
 }
 
 /// The fold of the exported segment by the recorded schema.
-fn fold_recorded<D: Disk>(
-    alloc: Global,
-    recording: &mut D,
-    export: &mut D,
-) -> Result<Fold, Answer>
+fn fold_recorded<D: Disk>(alloc: Global, recording: &mut D, export: &mut D) -> Result<Fold, Answer>
     ensures ok { IfOk result (λ fold. WithOutcome (D.files export.old) (D.files recording.old) (λ o. o ≡ outcome_from fold [])) }
     ensures err { IfErr result (StopsDryRun (D.files export.old) (D.files recording.old) (Rose (D.faults export.old) (D.faults export.new))
         (Rose (D.faults recording.old) (D.faults recording.new))) }

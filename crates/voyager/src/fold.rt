@@ -5,13 +5,11 @@ ghost use Rattle.voy_tables.specs.Lists.{empty_lists};
 ghost use Rattle.voyager.specs.DryRun.{line_refusal};
 ghost use Rattle.voyager.specs.Segment.{event_misfit, is_by_source, lists_with};
 
+use crate::answer::{Answer, Cause};
 use std::alloc::{AllocError, Global};
-
 use voy_event::{Event, LineError, LineWhy, What, read_line};
 use voy_schema::Schema;
 use voy_tables::{Change, Plain, PlainError, Role};
-
-use crate::answer::{Answer, Cause};
 
 /// The fold of the first events of a segment.
 #[derive(Debug, Drop)]

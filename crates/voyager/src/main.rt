@@ -17,11 +17,12 @@ mod names;
 mod print;
 mod segment;
 mod start;
+#[cfg(test)]
+mod tests;
 mod words;
 
 pub use answer::{Answer, Cause, Which};
 pub use command::{command, run};
-
 use std::process::ExitCode;
 
 fn main(rt: HostRuntime) -> ExitCode {

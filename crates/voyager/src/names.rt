@@ -3,7 +3,6 @@ ghost use Rattle.voy_disk.specs.Name.{is_name};
 ghost use Rattle.voyager.specs.Files.{metadata_name, schema_name, segment_name};
 
 use std::alloc::{AllocError, Global};
-
 use voy_disk::Name;
 
 /// The file of the metadata, on the export disk.

@@ -5,14 +5,12 @@ ghost use Rattle.voy_report.specs.Show.{tables_text};
 ghost use Rattle.voyager.specs.DryRun.{import_line};
 ghost use Rattle.voyager.specs.Printing.{IsOutputStop, fold_text};
 
+use crate::answer::{Answer, append_numbered};
+use crate::fold::Fold;
 use std::alloc::{AllocError, Global};
-
 use voy_disk::{Sink, SinkError, write_all};
 use voy_report::table_text;
 use voy_schema::{Bytes, Rows, Table};
-
-use crate::answer::{Answer, append_numbered};
-use crate::fold::Fold;
 
 /// Prints the fold's tables, and then whether the cutover event was reached. After an error a prefix of
 /// that text was printed.

@@ -10,27 +10,21 @@ ghost use Rattle.voyager.specs.Folding.{lines_left, outcome_from, unread_lines};
 ghost use Rattle.voyager.specs.Segment.{closing_line, event_lines, is_empty, without_closing};
 ghost use Rattle.voyager.specs.Stops.{StopsBy};
 
+use crate::answer::{Answer, Which, disk_stop};
+use crate::fold::Fold;
+use crate::names::segment_file;
 use std::alloc::Global;
-
 use voy_disk::Disk;
 use voy_event::MAX_EVENT_LINE_BYTES;
 use voy_files::{Found, LineReader};
 use voy_schema::Schema;
-
-use crate::answer::{Answer, Which, disk_stop};
-use crate::fold::Fold;
-use crate::names::segment_file;
 
 /// The line that closes a segment.
 const CLOSING_LINE: &[u8] = b"\\.";
 
 /// The fold of the segment's events into tables of `schema`; an absent segment has none. The segment is
 /// read in pieces, and one line of it is held.
-pub fn fold_segment<D: Disk>(
-    alloc: Global,
-    export: &mut D,
-    schema: Schema,
-) -> Result<Fold, Answer>
+pub fn fold_segment<D: Disk>(alloc: Global, export: &mut D, schema: Schema) -> Result<Fold, Answer>
     ensures ok { IfOk result (λ fold. IfTold (D.files export.old) (λ fs.
         outcome_of_lines schema.tables (event_lines (file_bytes (fs segment_name))) ≡ outcome_from fold [])) }
     ensures err { IfErr result (StopsBy (Answer.Fault Which.Export) (Rose (D.faults export.old) (D.faults export.new)) (λ a.

@@ -1,13 +1,11 @@
 ghost use Rattle.std.specs.Prelude.{◌≡◌, map, option_map, string_bytes};
 ghost use Rattle.voyager.specs.Words.{export_dir, non_empty};
 
-use std::alloc::{AllocError, Global};
-use std::env;
-
-use voy_disk::{HostDisk, HostSink, Place};
-
 use crate::answer::Answer;
 use crate::command::run;
+use std::alloc::{AllocError, Global};
+use std::env;
+use voy_disk::{HostDisk, HostSink, Place};
 
 /// Runs the program over the folders below the one that its words name, and gives the exit status.
 pub fn start(rt: HostRuntime) -> u8 {

@@ -11,8 +11,8 @@ pub returns-in_err-take_line-clause-err : goal.returns-in_err-take_line-clause-e
 returns-in_err-take_line-clause-err g c =
     let p = err_from_is_err_and c.from_residual-in_err-take_line.result c.from_residual-in_err-take_line.ensures.1 in
     rw (p.1, p.2) (stops_by _ _ _ c.args.fold.now c.line.result.now c.in_err-take_line.field-0.0
-        (λ stop. λ fs is.
-            ap (outcome_from c.args.fold.now) (line_stays (found_line c.args.reader.now) (unread c.args.reader.now fs) (sym (c.in_ok-closes.ensures.closed fs is) ∙ c.if-branch.false))
-            ∙ ap (λ line. outcome_from c.args.fold.now (line ∷ without_closing (lines_of (unread c.args.reader.now fs)))) (sym (c.line.ensures ∙ c.in_ok-closes.ensures.line))
-            ∙ stop (without_closing (lines_of (unread c.args.reader.now fs))))
-        c.in_err-take_line.ensures.err)
+    (λ stop. λ fs is.
+    ap (outcome_from c.args.fold.now) (line_stays (found_line c.args.reader.now) (unread c.args.reader.now fs) (sym (c.in_ok-closes.ensures.closed fs is) ∙ c.if-branch.false))
+    ∙ ap (λ line. outcome_from c.args.fold.now (line ∷ without_closing (lines_of (unread c.args.reader.now fs)))) (sym (c.line.ensures ∙ c.in_ok-closes.ensures.line))
+    ∙ stop (without_closing (lines_of (unread c.args.reader.now fs))))
+    c.in_err-take_line.ensures.err)
