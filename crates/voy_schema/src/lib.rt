@@ -1,8 +1,14 @@
 //! The tables of a move: their columns, keys and values, and the small types that every crate above shares.
 //!
-//! [`Schema`] is what `schema.json` states. A value is a text or NULL, and is lawful for its column's
-//! [`Kind`] as PostgreSQL prints that type. Contracts see a [`Text`] as its bytes and an [`Items`] as
-//! the list of its items, so that two values are equal exactly where they hold the same.
+//! [`Schema::read`] takes the bytes of `schema.json`, and gives the tables that they state, or the first
+//! table that breaks a rule and the first rule that it breaks. Every [`Schema`] has lawful tables: within
+//! the limits, under names of their own, with keys that name columns.
+//!
+//! A value is a text or NULL. [`check_value`] says which texts a column of each [`Kind`] takes, in the
+//! form in which PostgreSQL prints that type, and [`is_lawful_row`] whether a row can stand in a table.
+//!
+//! Contracts see a [`Text`] as its bytes and an [`Items`] as the list of its items, so that two values
+//! are equal exactly where they hold the same.
 #![tactic(auto)]
 
 mod building;
