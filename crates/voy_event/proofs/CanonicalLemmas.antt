@@ -1,23 +1,23 @@
 -- The data of a lawful event is canonical: its texts are UTF-8 and its names ascend.
-use Rattle.std.proofs.Common.{◌≡◌, ◌∙◌, ℕ, zero, suc, ◌<◌, ◌≤◌, ◌^◌, ◌==◌, List, [], ◌∷◌, Bool, true, false, Option, Some, None, arith, cond, inl, inr, length, ltb-true, leb-true, map, max, nat_le, nat_lt, refl, slice_get, subst, sym}
-use Rattle.std.proofs.lemmas.Bool.{and_from, and_parts, cases_Bool, eqb-true, lt-ltb, or_cases}
+use Rattle.std.proofs.Common.{◌≡◌, ℕ, zero, suc, ◌<◌, ◌≤◌, ◌^◌, ◌==◌, List, [], ◌∷◌, Bool, true, false, Option, Some, None, arith, cond, inl, inr, length, leb-true, nat_le, nat_lt, refl, slice_get, subst, sym}
+use Rattle.std.proofs.lemmas.Bool.{and_from, and_parts, eqb-true, lt-ltb, or_cases}
 use Rattle.std.proofs.lemmas.Slice.Eq.{bytes_eq-Decides}
 use Rattle.std.proofs.lemmas.Str.{IsUtf8-from_is_utf8, IsUtf8-nil}
 use Rattle.std.specs.Char.{is_ascii_digit}
 use Rattle.std.specs.Cmp.Lexicographic.{slice_cmp}
-use Rattle.std.specs.List.{list_all, list_any}
+use Rattle.std.specs.List.{list_all}
 use Rattle.std.specs.Ordering.{is_lt, match_ordering, nat_cmp}
 use Rattle.std.specs.Prelude.{◌&&◌, ◌||◌, codes, not}
 use Rattle.std.specs.Str.{IsUtf8, bytes_eq, is_utf8}
 use Rattle.std.specs.declared.cmp.Ordering.{Ordering}
 use Rattle.std.specs.declared.cmp.Ordering.TheVariants.{Less, Equal, Greater}
 use Rattle.json.proofs.Printed.Utf8.{IsUtf8-are_ascii, are_ascii}
-use Rattle.serde_json.specs.Data.{Data, null, number, object, string, unsigned, Members, no_members, member, put, depth, members_depth}
+use Rattle.serde_json.specs.Data.{Data, number, string, unsigned, Members, no_members, member, put, depth, members_depth}
 use Rattle.voy_json.specs.Canonical.{IsBefore, IsCanonical, MembersAreCanonical}
 use Rattle.voy_json.specs.CanonicalLaws.{MembersAreCanonical-put}
 use Rattle.voy_schema.specs.Lawful.{is_byte_of_name, is_first_of_name, is_name}
 use Rattle.voy_schema.specs.LawfulLaws.{LawfulParts, list_all-at}
-use Rattle.voy_schema.specs.Rows.{has_lawful_values, is_lawful_row, text_of, value_at, value_or_null}
+use Rattle.voy_schema.specs.Rows.{has_lawful_values, is_lawful_row, text_of, value_at}
 use Rattle.voy_schema.specs.Values.{is_bigint, is_boolean, is_bytea, is_decimal, is_lawful_text, is_lawful_value, is_lower_hex, is_text}
 use Rattle.voy_schema.specs.declared.table.Column.{Column}
 use Rattle.voy_schema.specs.declared.table.Kind.{Kind}

@@ -1,5 +1,5 @@
 -- The key of a row, as an object, agrees with that row and with each row of the same key.
-use Rattle.std.proofs.Common.{◌≡◌, ◌∙◌, ℕ, zero, suc, ◌<◌, List, [], ◌∷◌, Bool, true, false, Option, Some, None, ap, arith, length, ltb-true, map, nat_lt, not, option_and_then, refl, slice_get, subst, sym}
+use Rattle.std.proofs.Common.{◌≡◌, ◌∙◌, ℕ, zero, suc, ◌<◌, List, [], ◌∷◌, Bool, true, false, Option, Some, None, ap, arith, length, ltb-true, map, nat_lt, not, option_and_then, refl, slice_get, sym}
 use Rattle.std.proofs.lemmas.Bool.{and_from, and_parts, eqb-false, not-true, or_parts}
 use Rattle.std.proofs.lemmas.Slice.Eq.{bytes_eq-Decides}
 use Rattle.std.specs.List.{list_all, list_any}

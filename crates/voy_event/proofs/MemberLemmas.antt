@@ -1,28 +1,28 @@
 -- What is found in an object of column values, and which names it has.
-use Rattle.std.proofs.Common.{◌≡◌, ◌∙◌, ℕ, zero, suc, ◌<◌, List, [], ◌∷◌, Bool, true, false, Option, Some, None, ap, arith, length, map, not, option_and_then, refl, slice_get, subst, sym}
-use Rattle.std.proofs.lemmas.Bool.{and_from, and_parts, not-true, or_cases, or_parts, true≢false}
+use Rattle.std.proofs.Common.{◌≡◌, ◌∙◌, ℕ, zero, suc, List, [], ◌∷◌, Bool, true, false, Option, Some, ap, map, not, option_and_then, refl, slice_get, subst}
+use Rattle.std.proofs.lemmas.Bool.{and_from, and_parts, not-true, or_parts}
 use Rattle.std.proofs.lemmas.Bool.Decides.{not_from_Decides}
 use Rattle.std.proofs.lemmas.Slice.Eq.{bytes_eq-Decides}
 use Rattle.std.specs.Cmp.Lexicographic.{slice_cmp}
 use Rattle.std.specs.List.{list_all, list_any}
 use Rattle.std.specs.Ordering.{match_ordering, nat_cmp}
-use Rattle.std.specs.Prelude.{◌&&◌, ◌||◌, nat_eq}
+use Rattle.std.specs.Prelude.{◌||◌}
 use Rattle.std.specs.Str.{bytes_eq}
 use Rattle.std.specs.declared.cmp.Ordering.{Ordering}
 use Rattle.std.specs.declared.cmp.Ordering.TheVariants.{Less, Equal, Greater}
 use Rattle.serde_json.proofs.Views.{get_member-put, get_member-put_other}
-use Rattle.serde_json.specs.Data.{Data, null, object, string, Members, no_members, member, put}
+use Rattle.serde_json.specs.Data.{Data, object, Members, no_members, member, put}
 use Rattle.serde_json.specs.Find.{get_member}
 use Rattle.voy_json.specs.Document.{names_of_members}
 use Rattle.voy_schema.specs.Lawful.{is_distinct}
-use Rattle.voy_schema.specs.Rows.{has_lawful_values, text_of, value_at}
+use Rattle.voy_schema.specs.Rows.{has_lawful_values}
 use Rattle.voy_schema.specs.Values.{is_lawful_value}
 use Rattle.voy_schema.specs.declared.table.Column.{Column}
 use Rattle.voy_schema.specs.declared.table.Table.{Table}
 use Rattle.voy_schema.specs.declared.value.Value.{Value}
 use Rattle.voy_schema.specs.declared.value.Value.TheVariants.{Null, Text}
-use Rattle.voy_event.specs.Fields.{agrees_at, in_front, is_column, is_key_column, is_name_at, row_of, value_of}
-use Rattle.voy_event.specs.LineText.{value_data, with_columns, with_text, with_texts}
+use Rattle.voy_event.specs.Fields.{in_front, is_column, row_of, value_of}
+use Rattle.voy_event.specs.LineText.{value_data, with_columns}
 
 pub same_text : (s : List ℕ) → bytes_eq s s ≡ true
 same_text s = (bytes_eq-Decides s s).1 refl

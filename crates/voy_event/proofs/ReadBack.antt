@@ -1,17 +1,16 @@
 -- The line that is written of a lawful event reads back as the event.
-use Rattle.std.proofs.Common.{◌≡◌, ◌∙◌, ℕ, ◌<◌, ◌≤◌, ◌^◌, List, [], ◌∷◌, Bool, true, false, Option, Some, None, Ok, Err, Result, ap, arith, length, le-leb, le-ltb, lt-ltb, map, not, option_and_then, option_map, refl, slice_get, subst, sym}
+use Rattle.std.proofs.Common.{◌≡◌, ◌∙◌, ℕ, ◌<◌, ◌≤◌, ◌^◌, List, Bool, true, false, Option, Some, None, Ok, Err, ap, length, le-leb, le-ltb, lt-ltb, map, option_and_then, option_map, refl, slice_get, subst, sym}
 use Rattle.std.proofs.lemmas.Bool.{and_from, and_parts}
 use Rattle.std.specs.List.{list_all}
 use Rattle.std.specs.Option.{ok_or}
 use Rattle.std.specs.Prelude.{◌&&◌, codes, if◌then◌else◌}
-use Rattle.std.specs.Str.{IsUtf8}
 use Rattle.json.proofs.Printed.Utf8.{IsUtf8-are_ascii}
-use Rattle.serde_json.specs.Data.{Data, object, no_members}
+use Rattle.serde_json.specs.Data.{Data, no_members}
 use Rattle.serde_json.specs.Find.{get}
 use Rattle.serde_json.specs.Written.{compact_text}
 use Rattle.voy_json.specs.CanonicalLaws.{data_of_bytes-compact_text}
-use Rattle.voy_json.specs.Document.{data_of_bytes, is_object, names_of_members}
-use Rattle.voy_schema.specs.Lawful.{is_lawful, place_of}
+use Rattle.voy_json.specs.Document.{data_of_bytes}
+use Rattle.voy_schema.specs.Lawful.{is_lawful}
 use Rattle.voy_schema.specs.LawfulLaws.{LawfulParts, place_of-at, table_is_lawful, table_parts}
 use Rattle.voy_schema.specs.Rows.{has_lawful_values, is_lawful_row, text_of, values_at}
 use Rattle.voy_schema.specs.declared.table.Table.{Table}
@@ -27,18 +26,16 @@ use Rattle.voy_event.proofs.CanonicalLemmas.{RowsAreLawful, change_is_canonical,
 use Rattle.voy_event.proofs.KeyLemmas.{agrees-same_key, agrees-with_texts, key_names_are_known, key_names_are_of_key}
 use Rattle.voy_event.proofs.MemberLemmas.{columns_are_known, names_of-with_columns, row_of-with_columns, same_text}
 use Rattle.voy_event.specs.ChangeLine.{PlacedTable, change_of, has_known_columns, has_long_row, known_reading, placed, table_named, table_reading, within_limit}
-use Rattle.voy_event.specs.EventLine.{change_event, change_event_names, cutover_event, cutover_names, cutover_vsn, document_reading, from_one, has_exporter, kind_reading, line_reading, max_event_line_bytes, stamped, vsn_at}
-use Rattle.voy_event.specs.Fields.{agrees_at, is_column, is_key_column, is_key_of_row, is_null, names_in, only_if, row_at, row_of, row_with_key}
+use Rattle.voy_event.specs.EventLine.{change_event, change_event_names, cutover_event, cutover_names, cutover_vsn, document_reading, from_one, kind_reading, line_reading, max_event_line_bytes, stamped, vsn_at}
+use Rattle.voy_event.specs.Fields.{is_column, is_key_of_row, is_null, names_in, only_if, row_at, row_with_key}
 use Rattle.voy_event.specs.Laws.{EventsReadBack}
-use Rattle.voy_event.specs.LawfulEvent.{IsLawful, IsLawfulChange, IsLawfulFrom}
-use Rattle.voy_event.specs.LineText.{after_data, before_data, change_data, change_data_in, cutover_data, event_data, key_data, keyed_row, line_text, op_text, row_data, table_of, what_data, with_texts}
-use Rattle.voy_event.specs.Words.{event_kind, in_64_bits, kind_of_text, number_at, op_of_text, role_at, role_of_text, text_at, text_of_role}
+use Rattle.voy_event.specs.LawfulEvent.{IsLawfulChange, IsLawfulFrom}
+use Rattle.voy_event.specs.LineText.{after_data, before_data, change_data, change_data_in, cutover_data, key_data, keyed_row, line_text, row_data, table_of, what_data}
+use Rattle.voy_event.specs.Words.{event_kind, in_64_bits, kind_of_text, op_of_text, role_at, role_of_text, text_at, text_of_role}
 use Rattle.voy_event.specs.declared.event.Event.{Event}
 use Rattle.voy_event.specs.declared.event.What.{What}
 use Rattle.voy_event.specs.declared.event.What.TheVariants as what
-use Rattle.voy_event.specs.declared.line_error.LineWhy.{LineWhy}
 use Rattle.voy_event.specs.declared.line_error.LineWhy.TheVariants as why
-use Rattle.voy_event.specs.declared.words.EventKind.{EventKind}
 use Rattle.voy_event.specs.declared.words.EventKind.TheVariants as kind
 use Rattle.voy_event.specs.declared.words.Op.{Op}
 use Rattle.voy_event.specs.declared.words.Op.TheVariants.{Insert, Update, Delete}

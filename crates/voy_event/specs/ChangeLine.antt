@@ -1,9 +1,9 @@
 -- The rules that event lines with a change and recorded change lines share.
-use Rattle.std.specs.Prelude.{ℕ, Bool, true, false, List, [], ◌∷◌, ◌&&◌, ◌||◌, Option, Some, None, Result, Ok, Err, codes, not, option_and_then, option_map, slice_get, if◌then◌else◌}
+use Rattle.std.specs.Prelude.{ℕ, Bool, List, ◌&&◌, ◌||◌, Option, Some, None, Result, Ok, Err, codes, not, option_and_then, option_map, slice_get, if◌then◌else◌}
 use Rattle.std.specs.List.{list_all}
-use Rattle.serde_json.specs.Data.{Data, null, boolean, number, string, array, object}
+use Rattle.serde_json.specs.Data.{Data}
 use Rattle.serde_json.specs.Find.{get}
-use Rattle.voy_json.specs.Document.{has_names, has_only_names, names_of}
+use Rattle.voy_json.specs.Document.{has_names, has_only_names}
 use Rattle.voy_schema.specs.Lawful.{place_of}
 use Rattle.voy_schema.specs.declared.table.Table.{Table}
 use Rattle.voy_tables.specs.RowText.{is_too_long}

@@ -1,6 +1,5 @@
 -- What a reading of a line gives: an event that is lawful for the schema.
-use Rattle.std.specs.Prelude.{◌≡◌, ◌≤◌, ◌<◌, ◌^◌, ℕ, Bool, true, false, List, [], ◌∷◌, ◌&&◌, Option, Some, None, Result, Ok, Err, codes, length, map, not, option_and_then, option_map, slice_get, nat_eq, nat_le, nat_lt, if◌then◌else◌, refl}
-use Rattle.std.specs.Cmp.Lexicographic.{pointwise}
+use Rattle.std.specs.Prelude.{◌≡◌, ◌≤◌, ◌<◌, ◌^◌, ℕ, Bool, true, false, List, [], ◌∷◌, ◌&&◌, Option, Some, None, Result, Ok, Err, codes, length, map, not, option_and_then, option_map, slice_get, nat_le, nat_lt, if◌then◌else◌, refl}
 use Rattle.std.specs.List.{list_all}
 use Rattle.std.specs.Option.{ok_or, option_map_or}
 use Rattle.std.specs.Str.{bytes_eq}
@@ -24,7 +23,7 @@ use Rattle.voy_tables.specs.declared.change.Role.{Role}
 use Rattle.voy_tables.specs.declared.change.Role.TheVariants as exporter
 use Rattle.voy_event.specs.ChangeLine.{PlacedTable, change_of, has_long_row, known_reading, named_reading, placed, table_named, table_reading, within_limit}
 use Rattle.voy_event.specs.EventLine.{change_event, change_event_names, cutover_event, cutover_names, cutover_vsn, document_reading, from_one, has_exporter, kind_reading, line_reading, max_event_line_bytes, stamped, vsn_at}
-use Rattle.voy_event.specs.Fields.{agrees_at, is_key_of_row, is_null, only_if, row_at, row_of, row_with_key}
+use Rattle.voy_event.specs.Fields.{agrees_at, is_key_of_row, only_if, row_at, row_of, row_with_key}
 use Rattle.voy_event.specs.LawfulEvent.{IsLawful, IsLawfulChange, IsLawfulFrom, IsWritable, IsWritableWhat}
 use Rattle.voy_event.specs.Words.{event_kind, in_64_bits, number_at, role_at, text_at}
 use Rattle.voy_event.specs.declared.event.Event.{Event}

@@ -1,5 +1,5 @@
 -- What holds of every event that was read, and is asked of every event that is written.
-use Rattle.std.specs.Prelude.{◌≡◌, ◌≤◌, ◌<◌, ◌^◌, ℕ, List, true, false}
+use Rattle.std.specs.Prelude.{◌≡◌, ◌≤◌, ◌<◌, ◌^◌, List, true, false}
 use Rattle.voy_schema.specs.declared.table.Table.{Table}
 use Rattle.voy_tables.specs.Changes.{is_well_formed}
 use Rattle.voy_tables.specs.declared.change.Change.{Change}

@@ -25,8 +25,10 @@ pub(crate) fn table_of_line<'a>(
     names: &[&str],
     line: &Json,
 ) -> Result<Placed<'a>, LineWhy>
-    ensures ok { IfOk result (λ p. table_reading schema.now.tables (map (λ name. name.now) names.now) (view line.now) ≡ Ok (seen p)) }
-    ensures err { IfErr result (λ cause. table_reading schema.now.tables (map (λ name. name.now) names.now) (view line.now) ≡ Err cause) }
+    ensures ok { IfOk result (λ placed.
+        table_reading schema.now.tables (map (λ name. name.now) names.now) (view line.now) ≡ Ok (seen placed)) }
+    ensures err { IfErr result (λ cause.
+        table_reading schema.now.tables (map (λ name. name.now) names.now) (view line.now) ≡ Err cause) }
 {
     if !has_all(line, names) {
         return Err(LineWhy::Missing);
@@ -74,8 +76,10 @@ pub(crate) fn read_row_change(
     placed: &Placed,
     line: &Json,
 ) -> Result<Change, LineError>
-    ensures ok { IfOk result (λ c. within_limit (change_of op (seen placed.now) (view line.now)) ≡ Ok c) }
-    ensures err { IfErr result (Refuses (within_limit (change_of op (seen placed.now) (view line.now)))) }
+    ensures ok { IfOk result (λ change.
+        within_limit (change_of op (seen placed.now) (view line.now)) ≡ Ok change) }
+    ensures err { IfErr result
+        (Refuses (within_limit (change_of op (seen placed.now) (view line.now)))) }
 {
     let Some(change) = change_of(alloc, op, placed, line)? else {
         return Err(LineError::Bad(LineWhy::BadValue));

@@ -1,7 +1,6 @@
 ghost use Rattle.std.specs.Prelude.{◌≡◌, Some, IfOk, IfErr};
 ghost use Rattle.serde_json.specs.View.{view};
-ghost use Rattle.voy_event.specs.EventLine.{change_event, change_event_names, cutover_vsn, document_reading, has_exporter, line_reading, vsn_at};
-ghost use Rattle.voy_event.specs.ChangeLine.{table_reading};
+ghost use Rattle.voy_event.specs.EventLine.{cutover_vsn, document_reading, has_exporter, kind_reading, line_reading, vsn_at};
 ghost use Rattle.voy_event.specs.LawfulEvent.{IsLawful};
 ghost use Rattle.voy_event.specs.Refusal.{Refuses};
 
@@ -51,7 +50,8 @@ pub fn read_line(alloc: Global, schema: &Schema, bytes: &[u8]) -> Result<Event, 
 }
 
 fn read_document(alloc: Global, schema: &Schema, line: &Json) -> Result<Event, LineError>
-    ensures ok { IfOk result (λ event. document_reading schema.now.tables (Some (view line.now)) ≡ Ok event) }
+    ensures ok { IfOk result (λ event.
+        document_reading schema.now.tables (Some (view line.now)) ≡ Ok event) }
     ensures err { IfErr result (Refuses (document_reading schema.now.tables (Some (view line.now)))) }
 {
     if !line.is_object() {
@@ -80,8 +80,10 @@ fn read_change_event(
     op: Op,
     line: &Json,
 ) -> Result<Event, LineError>
-    ensures ok { IfOk result (λ event. change_event op (view line.now) (table_reading schema.now.tables change_event_names (view line.now)) ≡ Ok event) }
-    ensures err { IfErr result (Refuses (change_event op (view line.now) (table_reading schema.now.tables change_event_names (view line.now)))) }
+    ensures ok { IfOk result (λ event.
+        kind_reading schema.now.tables (view line.now) (Some (EventKind.Change op)) ≡ Ok event) }
+    ensures err { IfErr result
+        (Refuses (kind_reading schema.now.tables (view line.now) (Some (EventKind.Change op)))) }
 {
     let placed = match table_of_line(schema, &CHANGE_EVENT_NAMES, line) {
         Ok(placed) => placed,
@@ -101,8 +103,8 @@ fn read_change_event(
     })
 }
 
-#[tactic(auto, unfolding(crate::specs::EventLine::cutover_names))]
 /// The vsn of a cutover that this exporter must have written.
+#[tactic(auto, unfolding(crate::specs::EventLine::cutover_names))]
 fn cutover_vsn(role: Role, line: &Json) -> Result<u64, LineWhy>
     ensures { result ≡ cutover_vsn role (view line.now) }
 {

@@ -181,7 +181,9 @@ fn put_text(
     row: &Row,
     place: u32,
 ) -> Result<(), AllocError>
-    ensures { OnOk result (members_view found.new.entries ≡ with_text (slice_get table.now.columns place) (text_of (value_at row.now place)) (members_view found.old.entries)) }
+    ensures { OnOk result (members_view found.new.entries
+        ≡ with_text (slice_get table.now.columns place) (text_of (value_at row.now place))
+        (members_view found.old.entries)) }
 {
     let Some(column) = table.columns.get(place as usize) else {
         return Ok(());

@@ -1,8 +1,7 @@
 ghost use Rattle.std.specs.Prelude.{◌≡◌, Some, IfOk, IfErr};
 ghost use Rattle.serde_json.specs.View.{view};
-ghost use Rattle.voy_event.specs.ChangeLine.{table_reading};
 ghost use Rattle.voy_event.specs.LawfulEvent.{IsLawfulChange};
-ghost use Rattle.voy_event.specs.RecordedLine.{recorded_change, recorded_document_reading, recorded_names, recorded_reading};
+ghost use Rattle.voy_event.specs.RecordedLine.{recorded_document_reading, recorded_op_reading, recorded_reading};
 ghost use Rattle.voy_event.specs.Refusal.{Refuses};
 
 use crate::change_line::{read_row_change, table_of_line};
@@ -33,7 +32,8 @@ const RECORDED_NAMES: [&str; 8] = [
 ///
 /// A line without a reading is `Bad` with the first cause that holds, in the order of [`LineWhy`].
 pub fn read_change(alloc: Global, schema: &Schema, bytes: &[u8]) -> Result<Recorded, LineError>
-    ensures ok { IfOk result (λ recorded. recorded_reading schema.now.tables bytes.now ≡ Ok recorded) }
+    ensures ok { IfOk result (λ recorded.
+        recorded_reading schema.now.tables bytes.now ≡ Ok recorded) }
     ensures err { IfErr result (Refuses (recorded_reading schema.now.tables bytes.now)) }
     ensures lawful { IfOk result (λ recorded. IsLawfulChange schema.now.tables recorded.change) }
 {
@@ -48,8 +48,10 @@ pub fn read_change(alloc: Global, schema: &Schema, bytes: &[u8]) -> Result<Recor
 }
 
 fn read_document(alloc: Global, schema: &Schema, line: &Json) -> Result<Recorded, LineError>
-    ensures ok { IfOk result (λ recorded. recorded_document_reading schema.now.tables (Some (view line.now)) ≡ Ok recorded) }
-    ensures err { IfErr result (Refuses (recorded_document_reading schema.now.tables (Some (view line.now)))) }
+    ensures ok { IfOk result (λ recorded.
+        recorded_document_reading schema.now.tables (Some (view line.now)) ≡ Ok recorded) }
+    ensures err { IfErr result
+        (Refuses (recorded_document_reading schema.now.tables (Some (view line.now)))) }
 {
     if !line.is_object() {
         return Err(LineError::Bad(LineWhy::NotJson));
@@ -62,8 +64,10 @@ fn read_document(alloc: Global, schema: &Schema, line: &Json) -> Result<Recorded
 
 #[tactic(auto, unfolding(crate::specs::RecordedLine::recorded_names))]
 fn read_recorded(alloc: Global, schema: &Schema, op: Op, line: &Json) -> Result<Recorded, LineError>
-    ensures ok { IfOk result (λ recorded. recorded_change op (view line.now) (table_reading schema.now.tables recorded_names (view line.now)) ≡ Ok recorded) }
-    ensures err { IfErr result (Refuses (recorded_change op (view line.now) (table_reading schema.now.tables recorded_names (view line.now)))) }
+    ensures ok { IfOk result (λ recorded.
+        recorded_op_reading schema.now.tables (view line.now) (Some op) ≡ Ok recorded) }
+    ensures err { IfErr result
+        (Refuses (recorded_op_reading schema.now.tables (view line.now) (Some op))) }
 {
     let placed = match table_of_line(schema, &RECORDED_NAMES, line) {
         Ok(placed) => placed,
