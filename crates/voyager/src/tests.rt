@@ -1,5 +1,6 @@
 use super::command::run;
 use std::alloc::{AllocError, Global};
+use std::process::Abort;
 use std::test::Fail;
 use voy_disk::{FaultPlan, MemDisk, MemSink, Name, Numbers, Place};
 
@@ -150,251 +151,212 @@ fn fields_of(alloc: Global, id: &str, email: Option<&str>) -> Result<String, All
     }
 }
 
-#[test]
-fn a_dry_run_prints_the_fold_or_refuses_it(rt: HostRuntime) -> Result<(), Fail> {
-    let alloc = rt.alloc();
-    let cases: [(Option<&str>, &[&str], u8, &str, &str); 12] = [
-        (
-            Some(NOTES),
-            &[FIRST, SECOND, CUTOVER],
-            0,
-            "public.notes 2\na,x\nb,y\ndone: last vsn 3\n",
-            "",
-        ),
-        (
-            Some(NOTES),
-            &[FIRST, SECOND],
-            4,
-            "public.notes 2\na,x\nb,y\nwaiting: last vsn 2\n",
-            "",
-        ),
-        (
-            Some(NOTES),
-            &[],
-            4,
-            "public.notes 0\nwaiting: last vsn 0\n",
-            "",
-        ),
-        (
-            Some(NOTES),
-            &[FIRST, SECOND, CUTOVER, "\\."],
-            0,
-            "public.notes 2\na,x\nb,y\ndone: last vsn 3\n",
-            "",
-        ),
-        (
-            Some(NOTES),
-            &["\\."],
-            4,
-            "public.notes 0\nwaiting: last vsn 0\n",
-            "",
-        ),
-        (
-            Some(NOTES),
-            &[FIRST, FIRST_AGAIN],
-            7,
-            "",
-            "voyager: invalid stream at vsn 2\n",
-        ),
-        (
-            Some(NOTES),
-            &[SECOND],
-            8,
-            "",
-            "voyager: recording: segment.0.ndjson line 1: bad value\n",
-        ),
-        (
-            Some(NOTES),
-            &[FIRST, "{"],
-            8,
-            "",
-            "voyager: recording: segment.0.ndjson line 2: not json\n",
-        ),
-        (
-            Some(NOTES),
-            &["\\.", FIRST],
-            8,
-            "",
-            "voyager: recording: segment.0.ndjson line 1: not json\n",
-        ),
-        (
-            Some(NOTES),
-            &[FIRST, SECOND, CUTOVER, BEHIND],
-            8,
-            "",
-            "voyager: recording: segment.0.ndjson line 4: bad value\n",
-        ),
-        (
-            None,
-            &[FIRST],
-            8,
-            "",
-            "voyager: recording: schema.json line 0: missing\n",
-        ),
-        (
-            Some(USERS_WITHOUT_KEY),
-            &[],
-            8,
-            "",
-            "voyager: recording: schema.json line 1: no key\n",
-        ),
-    ];
-    for (schema, lines, status, out, err) in cases {
-        let segment = lines_of(alloc, lines)?;
-        let left = run_on(alloc, DRY_RUN, &files(schema, Some(segment.as_str())))?;
-        assert_eq!(rt; left.status, status, "at {segment}");
-        assert_eq!(rt; left.out.as_str(), out, "at {segment}");
-        assert_eq!(rt; left.err.as_str(), err, "at {segment}");
-    }
-    let absent = run_on(alloc, DRY_RUN, &files(Some(NOTES), None))?;
-    assert_eq!(rt; absent.status, 4);
-    assert_eq!(rt;
-        absent.out.as_str(),
-        "public.notes 0\nwaiting: last vsn 0\n"
-    );
-    let unended = run_on(alloc, DRY_RUN, &files(Some(NOTES), Some(FIRST)))?;
-    assert_eq!(rt;
-        unended.out.as_str(),
-        "public.notes 1\na,x\nwaiting: last vsn 1\n"
-    );
+// Runs the words over the setting, and asserts what they answer.
+fn expect_run(
+    rt: &(impl Abort + AllocGlobal),
+    words: &str,
+    setting: &Setting,
+    status: u8,
+    out: &str,
+    err: &str,
+) -> Result<(), Fail> {
+    let left = run_on(rt.alloc(), words, setting)?;
+    assert_eq!(rt; left.status, status);
+    assert_eq!(rt; left.out.as_str(), out);
+    assert_eq!(rt; left.err.as_str(), err);
     Ok(())
 }
 
+// A segment of these lines, each ended by LF.
+fn expect_notes(
+    rt: &(impl Abort + AllocGlobal),
+    lines: &[&str],
+    status: u8,
+    out: &str,
+    err: &str,
+) -> Result<(), Fail> {
+    let segment = lines_of(rt.alloc(), lines)?;
+    let setting = files(Some(NOTES), Some(segment.as_str()));
+    expect_run(rt, DRY_RUN, &setting, status, out, err)
+}
+
 #[test]
-fn keys_are_ordered_as_texts_and_unique_keys_hold(rt: HostRuntime) -> Result<(), Fail> {
+fn a_dry_run_prints_the_fold(rt: HostRuntime) -> Result<(), Fail> {
+    let done = "public.notes 2\na,x\nb,y\ndone: last vsn 3\n";
+    let waiting = "public.notes 2\na,x\nb,y\nwaiting: last vsn 2\n";
+    let none = "public.notes 0\nwaiting: last vsn 0\n";
+    expect_notes(&rt, &[FIRST, SECOND, CUTOVER], 0, done, "")?;
+    expect_notes(&rt, &[FIRST, SECOND, CUTOVER, "\\."], 0, done, "")?;
+    expect_notes(&rt, &[FIRST, SECOND], 4, waiting, "")?;
+    expect_notes(&rt, &["\\."], 4, none, "")?;
+    expect_notes(&rt, &[], 4, none, "")?;
+    expect_run(&rt, DRY_RUN, &files(Some(NOTES), None), 4, none, "")?;
+    let unended = files(Some(NOTES), Some(FIRST));
+    let first = "public.notes 1\na,x\nwaiting: last vsn 1\n";
+    expect_run(&rt, DRY_RUN, &unended, 4, first, "")?;
+    expect_run(&rt, DRY_RUN, &files(Some(NOTES), Some("\\.")), 4, none, "")
+}
+
+#[test]
+fn a_dry_run_refuses_the_first_line_that_is_no_event(rt: HostRuntime) -> Result<(), Fail> {
+    let invalid = "voyager: invalid stream at vsn 2\n";
+    let other_vsn = "voyager: recording: segment.0.ndjson line 1: bad value\n";
+    let second = "voyager: recording: segment.0.ndjson line 2: not json\n";
+    let closed_early = "voyager: recording: segment.0.ndjson line 1: not json\n";
+    let behind = "voyager: recording: segment.0.ndjson line 4: bad value\n";
+    let missing = "voyager: recording: schema.json line 0: missing\n";
+    let no_key = "voyager: recording: schema.json line 1: no key\n";
+    expect_notes(&rt, &[FIRST, FIRST_AGAIN], 7, "", invalid)?;
+    expect_notes(&rt, &[FIRST, FIRST_AGAIN, "{"], 7, "", invalid)?;
+    expect_notes(&rt, &[SECOND], 8, "", other_vsn)?;
+    expect_notes(&rt, &[FIRST, "{"], 8, "", second)?;
+    expect_notes(&rt, &["\\.", FIRST], 8, "", closed_early)?;
+    expect_notes(&rt, &[FIRST, SECOND, CUTOVER, BEHIND], 8, "", behind)?;
+    expect_run(&rt, DRY_RUN, &files(None, Some(FIRST)), 8, "", missing)?;
+    expect_run(
+        &rt,
+        DRY_RUN,
+        &files(Some(USERS_WITHOUT_KEY), None),
+        8,
+        "",
+        no_key,
+    )
+}
+
+// A segment of three changes of the users.
+fn expect_users(
+    rt: &(impl Abort + AllocGlobal),
+    first: String,
+    second: String,
+    third: String,
+    status: u8,
+    out: &str,
+    err: &str,
+) -> Result<(), Fail> {
+    let lines = [first.as_str(), second.as_str(), third.as_str()];
+    let segment = lines_of(rt.alloc(), &lines)?;
+    let setting = files(Some(USERS), Some(segment.as_str()));
+    expect_run(rt, DRY_RUN, &setting, status, out, err)
+}
+
+#[test]
+fn a_unique_tuple_is_free_once_its_row_is_gone(rt: HostRuntime) -> Result<(), Fail> {
     let alloc = rt.alloc();
     let u = Some("\"u\"");
+    let first = change(alloc, "c", 1, "1", None, u)?;
+    let second = change(alloc, "d", 2, "1", u, None)?;
+    let third = change(alloc, "c", 3, "2", None, u)?;
+    let text = "public.users 1\n2,u\nwaiting: last vsn 3\n";
+    expect_users(&rt, first, second, third, 4, text, "")
+}
+
+#[test]
+fn rows_are_printed_by_their_keys_as_texts(rt: HostRuntime) -> Result<(), Fail> {
+    let alloc = rt.alloc();
+    let u = Some("\"u\"");
+    let first = change(alloc, "c", 1, "9", None, Some("\"a\""))?;
+    let second = change(alloc, "c", 2, "10", None, u)?;
+    let third = change(alloc, "u", 3, "10", u, Some("\"b\""))?;
+    let text = "public.users 2\n10,b\n9,a\nwaiting: last vsn 3\n";
+    expect_users(&rt, first, second, third, 4, text, "")
+}
+
+#[test]
+fn a_taken_unique_tuple_is_an_invalid_stream(rt: HostRuntime) -> Result<(), Fail> {
+    let alloc = rt.alloc();
     let a = Some("\"a\"");
-    let cases = [
-        (
-            [
-                change(alloc, "c", 1, "1", None, u)?,
-                change(alloc, "d", 2, "1", u, None)?,
-                change(alloc, "c", 3, "2", None, u)?,
-            ],
-            4,
-            "public.users 1\n2,u\nwaiting: last vsn 3\n",
-            "",
-        ),
-        (
-            [
-                change(alloc, "c", 1, "9", None, a)?,
-                change(alloc, "c", 2, "10", None, u)?,
-                change(alloc, "u", 3, "10", u, Some("\"b\""))?,
-            ],
-            4,
-            "public.users 2\n10,b\n9,a\nwaiting: last vsn 3\n",
-            "",
-        ),
-        (
-            [
-                change(alloc, "c", 1, "1", None, a)?,
-                change(alloc, "c", 2, "2", None, a)?,
-                change(alloc, "c", 3, "3", None, u)?,
-            ],
-            7,
-            "",
-            "voyager: invalid stream at vsn 2\n",
-        ),
-        (
-            [
-                change(alloc, "c", 1, "1", None, Some("null"))?,
-                change(alloc, "c", 2, "2", None, Some("null"))?,
-                change(alloc, "c", 3, "3", None, u)?,
-            ],
-            4,
-            "public.users 3\n1,\\N\n2,\\N\n3,u\nwaiting: last vsn 3\n",
-            "",
-        ),
-    ];
-    for (lines, status, out, err) in cases {
-        let segment = lines_of(
-            alloc,
-            &[lines[0].as_str(), lines[1].as_str(), lines[2].as_str()],
-        )?;
-        let left = run_on(alloc, DRY_RUN, &files(Some(USERS), Some(segment.as_str())))?;
-        assert_eq!(rt; left.status, status, "at {segment}");
-        assert_eq!(rt; left.out.as_str(), out, "at {segment}");
-        assert_eq!(rt; left.err.as_str(), err, "at {segment}");
-    }
-    Ok(())
+    let first = change(alloc, "c", 1, "1", None, a)?;
+    let second = change(alloc, "c", 2, "2", None, a)?;
+    let third = change(alloc, "c", 3, "3", None, Some("\"u\""))?;
+    expect_users(
+        &rt,
+        first,
+        second,
+        third,
+        7,
+        "",
+        "voyager: invalid stream at vsn 2\n",
+    )
+}
+
+#[test]
+fn rows_with_null_share_no_unique_tuple(rt: HostRuntime) -> Result<(), Fail> {
+    let alloc = rt.alloc();
+    let null = Some("null");
+    let first = change(alloc, "c", 1, "1", None, null)?;
+    let second = change(alloc, "c", 2, "2", None, null)?;
+    let third = change(alloc, "c", 3, "3", None, Some("\"u\""))?;
+    let text = "public.users 3\n1,\\N\n2,\\N\n3,u\nwaiting: last vsn 3\n";
+    expect_users(&rt, first, second, third, 4, text, "")
+}
+
+fn expect_usage(rt: &(impl Abort + AllocGlobal), words: &str, err: &str) -> Result<(), Fail> {
+    expect_run(rt, words, &files(Some(NOTES), Some(FIRST)), 1, "", err)
 }
 
 #[test]
 fn words_that_ask_for_nothing_are_refused(rt: HostRuntime) -> Result<(), Fail> {
-    let alloc = rt.alloc();
+    let unknown = "voyager: no such command\n";
     let unread = "voyager: the words after \"import data to target\" have no reading\n";
-    let cases = [
-        ("frobnicate", "voyager: no such command\n"),
-        ("import data to", "voyager: no such command\n"),
-        ("", "voyager: no such command\n"),
-        ("import data to target", unread),
-        ("import data to target --dry-run now", unread),
-        ("import data to target --dry-run --dry-run", unread),
-        ("import data to target --dry-run=true", unread),
-    ];
-    for (words, err) in cases {
-        let left = run_on(alloc, words, &files(Some(NOTES), Some(FIRST)))?;
-        assert_eq!(rt; left.status, 1, "at {words}");
-        assert_eq!(rt; left.out.as_str(), "", "at {words}");
-        assert_eq!(rt; left.err.as_str(), err, "at {words}");
+    expect_usage(&rt, "frobnicate", unknown)?;
+    expect_usage(&rt, "import data to", unknown)?;
+    expect_usage(&rt, "", unknown)?;
+    expect_usage(&rt, "import data to target", unread)?;
+    expect_usage(&rt, "import data to target --dry-run now", unread)?;
+    expect_usage(&rt, "import data to target --dry-run --dry-run", unread)?;
+    expect_usage(&rt, "import data to target --dry-run=true", unread)
+}
+
+// The dry run of the notes with one call of a disk failing, and whether it failed.
+fn expect_fault(
+    rt: &(impl Abort + AllocGlobal),
+    setting: &Setting,
+    err: &str,
+) -> Result<bool, Fail> {
+    let left = run_on(rt.alloc(), DRY_RUN, setting)?;
+    if left.status == 0 {
+        return Ok(false);
     }
-    Ok(())
+    assert_eq!(rt; left.status, 2);
+    assert_eq!(rt; left.out.as_str(), "");
+    assert_eq!(rt; left.err.as_str(), err);
+    Ok(true)
 }
 
 #[test]
 fn each_fault_is_told_by_its_disk(rt: HostRuntime) -> Result<(), Fail> {
-    let alloc = rt.alloc();
-    let segment = lines_of(alloc, &[FIRST, SECOND, CUTOVER])?;
+    let segment = lines_of(rt.alloc(), &[FIRST, SECOND, CUTOVER])?;
     let mut setting = files(Some(NOTES), Some(segment.as_str()));
-    let mut statuses = [0; 2];
-    for call in 1..20u64 {
+    let mut recording = 0u32;
+    let mut export = 0u32;
+    for call in 1..12u64 {
         setting.recording_fails_at = call;
-        let left = run_on(alloc, DRY_RUN, &setting)?;
-        if left.status == 2 {
-            statuses[0] += 1;
-            assert_eq!(rt;
-                left.err.as_str(),
-                "voyager: disk fault: recording\n",
-                "at {call}"
-            );
-            assert_eq!(rt; left.out.as_str(), "", "at {call}");
-        } else {
-            assert_eq!(rt; left.status, 0, "at {call}");
+        if expect_fault(&rt, &setting, "voyager: disk fault: recording\n")? {
+            recording = recording.saturating_add(1);
         }
         setting.recording_fails_at = 0;
         setting.export_fails_at = call;
-        let left = run_on(alloc, DRY_RUN, &setting)?;
-        if left.status == 2 {
-            statuses[1] += 1;
-            assert_eq!(rt;
-                left.err.as_str(),
-                "voyager: disk fault: export\n",
-                "at {call}"
-            );
-            assert_eq!(rt; left.out.as_str(), "", "at {call}");
-        } else {
-            assert_eq!(rt; left.status, 0, "at {call}");
+        if expect_fault(&rt, &setting, "voyager: disk fault: export\n")? {
+            export = export.saturating_add(1);
         }
         setting.export_fails_at = 0;
     }
-    // The schema takes its length and a read; the export the metadata's length, the segment's, and a read.
-    assert!(rt; statuses[0] >= 2);
-    assert!(rt; statuses[1] >= 3);
+    // The schema takes its length and a read; the export the lengths of two files and a read.
+    assert!(rt; recording >= 2);
+    assert!(rt; export >= 3);
     Ok(())
 }
 
 #[test]
 fn an_output_that_fails_is_told_and_an_error_output_is_not(rt: HostRuntime) -> Result<(), Fail> {
-    let alloc = rt.alloc();
-    let segment = lines_of(alloc, &[FIRST, SECOND, CUTOVER])?;
+    let segment = lines_of(rt.alloc(), &[FIRST, SECOND, CUTOVER])?;
     let mut setting = files(Some(NOTES), Some(segment.as_str()));
     setting.out_fails_from = 1;
-    let left = run_on(alloc, DRY_RUN, &setting)?;
+    let left = run_on(rt.alloc(), DRY_RUN, &setting)?;
     assert_eq!(rt; left.status, 9);
     assert_eq!(rt; left.err.as_str(), "voyager: output fault\n");
     setting.err_fails_from = 1;
-    let left = run_on(alloc, DRY_RUN, &setting)?;
+    let left = run_on(rt.alloc(), DRY_RUN, &setting)?;
     assert_eq!(rt; left.status, 9);
     assert_eq!(rt; left.err.as_str(), "");
     Ok(())
@@ -435,29 +397,53 @@ fn note(alloc: Global, bytes: usize) -> Result<String, AllocError> {
     Ok(line)
 }
 
+fn expect_note(
+    rt: &(impl Abort + AllocGlobal),
+    bytes: usize,
+    status: u8,
+    out: &str,
+    err: &str,
+) -> Result<(), Fail> {
+    let line = note(rt.alloc(), bytes)?;
+    let left = run_on(
+        rt.alloc(),
+        DRY_RUN,
+        &files(Some(NOTES), Some(line.as_str())),
+    )?;
+    assert_eq!(rt; left.status, status);
+    assert_eq!(rt; left.out.as_str().starts_with(out), true);
+    assert_eq!(rt; left.err.as_str(), err);
+    Ok(())
+}
+
+// A line without a reading of this many bytes.
+fn expect_noise(
+    rt: &(impl Abort + AllocGlobal),
+    bytes: usize,
+    status: u8,
+    err: &str,
+) -> Result<(), Fail> {
+    let mut line = String::new(rt.alloc());
+    for _ in 0..bytes {
+        line.push_str("x")?;
+    }
+    expect_run(
+        rt,
+        DRY_RUN,
+        &files(Some(NOTES), Some(line.as_str())),
+        status,
+        "",
+        err,
+    )
+}
+
 #[test]
 fn limits_of_lines_and_of_row_texts_are_exact(rt: HostRuntime) -> Result<(), Fail> {
-    let alloc = rt.alloc();
     let limit = "voyager: limit: segment.0.ndjson line 1\n";
+    let unread = "voyager: recording: segment.0.ndjson line 1: not json\n";
     // The row text is the key, a comma, the body and LF.
-    for (body, status, err) in [
-        (1_048_573, 4, ""),
-        (1_048_574, 10, limit),
-        (5_000_000, 10, limit),
-    ] {
-        let line = note(alloc, body)?;
-        let left = run_on(alloc, DRY_RUN, &files(Some(NOTES), Some(line.as_str())))?;
-        assert_eq!(rt; left.status, status, "at {body}");
-        assert_eq!(rt; left.err.as_str(), err, "at {body}");
-    }
-    // A line without a reading: of its own cause up to the limit, and past the limit of that.
-    for (bytes, status) in [(4_195_328, 8), (4_195_329, 10)] {
-        let mut line = String::new(alloc);
-        for _ in 0..bytes {
-            line.push_str("x")?;
-        }
-        let left = run_on(alloc, DRY_RUN, &files(Some(NOTES), Some(line.as_str())))?;
-        assert_eq!(rt; left.status, status, "at {bytes}");
-    }
-    Ok(())
+    expect_note(&rt, 1_048_573, 4, "public.notes 1\na,xxx", "")?;
+    expect_note(&rt, 1_048_574, 10, "", limit)?;
+    expect_noise(&rt, 4_195_328, 8, unread)?;
+    expect_noise(&rt, 4_195_329, 10, limit)
 }
