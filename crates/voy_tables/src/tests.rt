@@ -1,0 +1,4 @@
+mod made;
+mod plain_tables;
+mod recorded_texts;
+mod row_texts;
