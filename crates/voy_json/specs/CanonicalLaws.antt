@@ -217,10 +217,10 @@ pub MembersAreCanonical-put : (k : List ℕ) (d : Data) (ms : Members) → IsUtf
 MembersAreCanonical-put k d no_members utf8 canonical members = (utf8, tt, canonical, tt)
 MembersAreCanonical-put k d (member l e ms) utf8 canonical members =
     by_order (slice_cmp nat_cmp k l) refl (MembersAreCanonical-put k d ms utf8 canonical members.3) where
-  by_order : (o : Ordering) → slice_cmp nat_cmp k l ≡ o → MembersAreCanonical (put k d ms)
-      → MembersAreCanonical (match_ordering o (member k d (member l e ms)) (member l d ms) (member l e (put k d ms)))
-  by_order Less is later = (utf8, (is, before_all k l ms is members.1), canonical, members)
-  by_order Equal is later = (members.0, members.1, canonical, members.3)
-  by_order Greater is later =
-      let less : slice_cmp nat_cmp l k ≡ Less = nat_list_cmp_total.antisymm l k ∙ ap ordering_reverse is in
-      (members.0, put_before k l d ms less members.1, members.2, later)
+      by_order : (o : Ordering) → slice_cmp nat_cmp k l ≡ o → MembersAreCanonical (put k d ms)
+          → MembersAreCanonical (match_ordering o (member k d (member l e ms)) (member l d ms) (member l e (put k d ms)))
+      by_order Less is later = (utf8, (is, before_all k l ms is members.1), canonical, members)
+      by_order Equal is later = (members.0, members.1, canonical, members.3)
+      by_order Greater is later =
+          let less : slice_cmp nat_cmp l k ≡ Less = nat_list_cmp_total.antisymm l k ∙ ap ordering_reverse is in
+          (members.0, put_before k l d ms less members.1, members.2, later)

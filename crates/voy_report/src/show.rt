@@ -1,9 +1,8 @@
 ghost use Rattle.std.specs.Prelude.{◌≡◌, ◌++◌, OnOk, OnErr};
 ghost use Rattle.voy_report.specs.Show.{Appends, rows_text, table_line, table_text};
 
-use std::alloc::{AllocError, Global};
-
 use itoa::Buffer;
+use std::alloc::{AllocError, Global};
 use voy_schema::{Bytes, Row, Table};
 use voy_tables::write_row;
 

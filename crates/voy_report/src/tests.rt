@@ -40,6 +40,9 @@ fn a_table_is_its_name_its_count_and_its_rows(rt: HostRuntime) -> Result<(), Fai
     table_text(alloc, &table, &[], &mut text)?;
     let rows = [row(alloc, "a", Some("x,y"))?, row(alloc, "b", None)?];
     table_text(alloc, &table, &rows, &mut text)?;
-    assert_eq!(rt; text.as_slice(), b"public.notes 0\npublic.notes 2\na,\"x,y\"\nb,\\N\n".as_slice());
+    assert_eq!(rt;
+        text.as_slice(),
+        b"public.notes 0\npublic.notes 2\na,\"x,y\"\nb,\\N\n".as_slice()
+    );
     Ok(())
 }
