@@ -1,6 +1,14 @@
-//! Changes of rows, tables that take them, and the text of a row.
+//! Changes of rows, plain tables that take them, and the texts of rows both ways.
 //!
 //! A [`Change`] inserts, updates or deletes one row, and carries the whole row before and after it.
+//! [`Plain`] keeps tables as lists of rows by ascending key: [`Plain::fits`] tells the first cause why a
+//! change does not fit, and [`Plain::apply`] does one that fits. Their clauses speak of lists of rows; the
+//! laws [`lists_are_tables`], [`folds_agree`] and [`misfit_is_none_where_it_fits`] tie these to tables as
+//! functions from keys to rows, and a misfit to what it means to fit.
+//!
+//! [`write_row`] appends the text of a row. [`read_rows`] reads such texts, [`read_recorded`] a recorded
+//! file with a header, and each refusal is exact. The clause to believe is the law [`rows_read_back`]: a
+//! text reads as rows exactly where it is what they are written as, byte for byte, and each is lawful.
 #![tactic(auto)]
 
 mod change;
