@@ -30,13 +30,6 @@ impl Text {
         Ok(Text { text })
     }
 
-    /// `text` as it is, with no memory taken.
-    pub fn from_string(text: String) -> Text
-        ensures { result ≡ string_bytes text }
-    {
-        Text { text }
-    }
-
     pub fn as_str(&self) -> &str
         ensures { result.now ≡ self.now }
     {
