@@ -1,5 +1,5 @@
 -- What the parts of a dry run make of its answer and of its output.
-use Rattle.std.proofs.Common.{◌≡◌, ℕ, ◌+◌, ◌≤◌, Bool, true, false, ◌||◌, List, [], ◌++◌, Option, Some, None, length, take, refl, sym, ap, ◌∙◌, inl, inr, ◌⊎◌, add-zero, append-nil, subst, arith, is_some}
+use Rattle.std.proofs.Common.{◌≡◌, ℕ, Bool, true, false, ◌||◌, List, [], Option, Some, None, refl, sym, ap, inl, inr, ◌⊎◌, add-zero, append-nil, subst, arith, is_some}
 use Rattle.voy_disk.specs.File.{File}
 use Rattle.voy_disk.specs.Files.{Files, bytes_now}
 use Rattle.voy_disk.specs.Written.{GotFront, grown}
@@ -7,11 +7,9 @@ use Rattle.voyager.specs.Answered.{ComesFrom, IsPrinted, StopsDryRun, WithOutcom
 use Rattle.voyager.specs.DryRun.{Outcome, refusing, shown}
 use Rattle.voyager.specs.Files.{file_bytes}
 use Rattle.voyager.specs.Folding.{outcome_from}
-use Rattle.voyager.specs.Printing.{fold_text}
 use Rattle.voyager.specs.Stops.{is_refusal}
 use Rattle.voyager.specs.declared.answer.Answer.{Answer}
 use Rattle.voyager.specs.declared.answer.Answer.TheVariants.{Done, Waiting, NoCommand, NoReading, Fault, NoMemory, Invalid, Refused, OutputFault, TooLong, NotBuilt}
-use Rattle.voyager.specs.declared.answer.Which.TheVariants.{Recording, Export}
 use Rattle.voyager.specs.declared.fold.Fold.{Fold}
 
 grown-nothing : (w : Option (List ℕ)) → w ≡ grown w []

@@ -1,5 +1,5 @@
 -- How the outcome of a segment goes on, or stops, at its next line.
-use Rattle.std.proofs.Common.{◌≡◌, ℕ, suc, ◌+◌, Bool, true, false, cond, ◌&&◌, ◌||◌, not, List, [], ◌∷◌, Option, Some, None, Result, Ok, Err, length, is_some, refl, sym, ap, ◌∙◌, inl, inr, ◌⊎◌, arith}
+use Rattle.std.proofs.Common.{◌≡◌, ℕ, suc, ◌+◌, Bool, true, false, cond, ◌&&◌, ◌||◌, not, List, ◌∷◌, Option, Some, None, Result, Ok, Err, length, is_some, refl, sym, ap, ◌∙◌, inl, inr, arith}
 use Rattle.std.proofs.lemmas.Bool.Decides.{nat_tests}
 use Rattle.std.specs.Bool.{◌==◌}
 use Rattle.std.specs.List.{list_any}
@@ -10,8 +10,8 @@ use Rattle.voy_event.specs.declared.line_error.LineWhy.TheVariants.{BadValue}
 use Rattle.voy_event.specs.declared.line_error.LineWhy.TheVariants as why
 use Rattle.voy_schema.specs.declared.table.Table.{Table}
 use Rattle.voy_schema.specs.declared.value.Value.{Value}
-use Rattle.voyager.specs.DryRun.{Outcome, line_refusal, refusing, shown}
-use Rattle.voyager.specs.Folding.{GoesOn, IsNext, IsNoFit, IsNoNext, Stops, Takes, fold_from, lines_from, outcome_from, rest_from}
+use Rattle.voyager.specs.DryRun.{line_refusal, refusing, shown}
+use Rattle.voyager.specs.Folding.{GoesOn, IsNext, IsNoFit, IsNoNext, Stops, Takes, fold_from, lines_from, rest_from}
 use Rattle.voyager.specs.Segment.{as_next, event_misfit, folded, is_by_source, is_cutover, lists_with, queue_of}
 use Rattle.voyager.specs.Stops.{is_refusal}
 use Rattle.voyager.specs.declared.answer.Answer.{Answer}
@@ -29,7 +29,8 @@ not_holds : (b : Bool) → not b ≡ true → b ≡ false
 not_holds true h = cc
 not_holds false h = refl
 
-chosen : (t : Bool) (e f : Event) → cond {A = Result Event LineWhy} t (Ok e) (Err BadValue) ≡ Ok f → (t ≡ true) × (e ≡ f)
+-- an event that passed its test
+pub chosen : (t : Bool) (e f : Event) → cond {A = Result Event LineWhy} t (Ok e) (Err BadValue) ≡ Ok f → (t ≡ true) × (e ≡ f)
 chosen true e f h = (refl, cc)
 chosen false e f h = cc
 
@@ -86,7 +87,7 @@ goes_on old new line e next takes = λ lines.
 pub next_vsn : (old new : Fold) (line : List ℕ) (e : Event) → IsNext old line e → Takes old e new → new.last ≡ old.last + 1
 next_vsn old new line e next takes = takes.last ∙ (next_is _ _ _ _ next).0
 
-is_refusal-line_refusal : (line : ℕ) (w : LineWhy) → is_refusal (line_refusal line w) ≡ true
+pub is_refusal-line_refusal : (line : ℕ) (w : LineWhy) → is_refusal (line_refusal line w) ≡ true
 is_refusal-line_refusal line why.TooLong = refl
 is_refusal-line_refusal line why.NotJson = refl
 is_refusal-line_refusal line why.BadOp = refl

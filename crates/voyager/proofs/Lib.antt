@@ -1,4 +1,5 @@
 pub mod FoldingLaws
 pub mod SegmentLaws
 pub mod DryRunLaws
+pub mod ValidLaws
 pub mod TextLaws

@@ -1,9 +1,9 @@
 -- The lines of a segment, its closing line, and lines past the limit.
-use Rattle.std.proofs.Common.{◌≡◌, ◌≢◌, ℕ, ◌+◌, ◌<◌, ◌≤◌, Bool, true, false, cond, ◌&&◌, List, [], ◌∷◌, Result, Ok, Err, Option, Some, None, zero-add, length, nat_lt, refl, sym, ap, ◌∙◌, inl, inr, ◌⊎◌, arith, subst, codes, if◌then◌else◌}
+use Rattle.std.proofs.Common.{◌≡◌, ◌≢◌, ℕ, ◌+◌, ◌<◌, ◌≤◌, Bool, true, false, ◌&&◌, List, [], ◌∷◌, Result, Ok, Err, Option, Some, None, zero-add, length, nat_lt, refl, sym, ap, ◌∙◌, inl, inr, ◌⊎◌, arith, subst}
 use Rattle.std.proofs.lemmas.Bool.Decides.{nat_tests}
 use Rattle.std.specs.Cmp.Lexicographic.{same_text}
 use Rattle.std.specs.Str.{bytes_eq}
-use Rattle.voy_event.specs.EventLine.{line_reading, max_event_line_bytes}
+use Rattle.voy_event.specs.EventLine.{max_event_line_bytes}
 use Rattle.voy_disk.specs.Faults.{Rose}
 use Rattle.voy_disk.specs.File.{File}
 use Rattle.voy_disk.specs.Files.{Files, Told, bytes_now}
@@ -16,9 +16,9 @@ use Rattle.std.specs.List.{list_any}
 use Rattle.voy_files.specs.LineLaws.{lines_of-some}
 use Rattle.voy_files.specs.Lines.{lines_of}
 use Rattle.voy_schema.specs.declared.table.Table.{Table}
-use Rattle.voyager.specs.DryRun.{line_refusal, outcome_of_lines, refusing, shown, with_fold, with_rest}
+use Rattle.voyager.specs.DryRun.{outcome_of_lines, refusing, shown, with_fold, with_rest}
 use Rattle.voyager.specs.Folding.{Stops, fold_from, outcome_from, rest_from}
-use Rattle.voyager.specs.Segment.{Queue, as_next, closing_line, event_lines, folded, is_cutover, is_empty, queue_of, without_closing}
+use Rattle.voyager.specs.Segment.{Queue, closing_line, event_lines, folded, is_cutover, is_empty, queue_of, without_closing}
 use Rattle.voyager.specs.Files.{file_bytes}
 use Rattle.voyager.specs.Stops.{is_refusal}
 use Rattle.voyager.specs.declared.answer.Answer.{Answer}

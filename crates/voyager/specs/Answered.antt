@@ -1,5 +1,5 @@
 -- What stands behind each answer of a command: when it comes, and what was printed.
-use Rattle.std.specs.Prelude.{◌≡◌, ◌⊎◌, ℕ, Bool, true, false, List, Option}
+use Rattle.std.specs.Prelude.{◌≡◌, ◌⊎◌, ℕ, true, false, List, Option}
 use Rattle.voy_disk.specs.Faults.{Rose}
 use Rattle.voy_disk.specs.Files.{Files}
 use Rattle.voy_disk.specs.Written.{GotFront, grown}
@@ -8,6 +8,7 @@ use Rattle.voyager.specs.Answer.{status_of, text_on_err}
 use Rattle.voyager.specs.DryRun.{Outcome, refusing}
 use Rattle.voyager.specs.Files.{IfTold, dry_run_outcome}
 use Rattle.voyager.specs.Stops.{is_refusal}
+use Rattle.voyager.specs.Valid.{IsComplete}
 use Rattle.voyager.specs.Words.{asked_by}
 use Rattle.voyager.specs.declared.answer.Answer.{Answer}
 use Rattle.voyager.specs.declared.answer.Answer.TheVariants.{Done, Waiting, NoCommand, NoReading, Fault, NoMemory, Invalid, Refused, OutputFault, TooLong, NotBuilt}
@@ -64,7 +65,7 @@ pub record State (D K : Type 0) : Type 0 where
   pub out : K
   pub err : K
 
--- the words have no reading exactly where a command answers so
+-- a fact on the answer to words that ask for the dry run; words without a reading have just their answer
 abbrev pub IsAskedFor : Asked → (Answer → Type 0) → Answer → Type 0
 IsAskedFor asked.NoCommand comes a = a ≡ NoCommand
 IsAskedFor asked.NoReading comes a = a ≡ NoReading
@@ -77,6 +78,10 @@ pub record IsAnswered {D K : Type 0} (files : D → Option Files) (faults : D �
   pub status : code ≡ status_of answer
   pub cause : IsAskedFor (asked_by words)
       (ComesFrom (files old.place.export) (files old.place.recording) (Rose (faults old.place.export) (faults new.place.export))
+      (Rose (faults old.place.recording) (faults new.place.recording)) (Rose (failures old.out) (failures new.out)))
+      answer
+  pub complete : IsAskedFor (asked_by words)
+      (IsComplete (files old.place.export) (files old.place.recording) (Rose (faults old.place.export) (faults new.place.export))
       (Rose (faults old.place.recording) (faults new.place.recording)) (Rose (failures old.out) (failures new.out)))
       answer
   pub printed : IsPrinted (files old.place.export) (files old.place.recording) (written old.out) (written new.out) answer

@@ -1,5 +1,5 @@
 -- What the dry run without metadata answers, and what it prints.
-use Rattle.std.specs.Prelude.{ℕ, Bool, true, false, List, [], ◌∷◌, ◌++◌, Option, Some, None, Result, Ok, Err, codes, decimal, length, if◌then◌else◌}
+use Rattle.std.specs.Prelude.{ℕ, Bool, false, List, [], ◌++◌, Option, Some, None, Result, Ok, Err, codes, decimal, length, if◌then◌else◌}
 use Rattle.std.specs.List.{list_any}
 use Rattle.voy_event.specs.declared.event.Event.{Event}
 use Rattle.voy_event.specs.declared.line_error.LineWhy.{LineWhy}
@@ -27,10 +27,14 @@ refusing a = record { answer = a; text = [] }
 unfoldable pub import_line : Bool → ℕ → List ℕ
 import_line ended last = codes (if ended then "done: last vsn " else "waiting: last vsn ") ++ decimal last ++ codes "\n"
 
+-- the answer to a segment that was folded to its end: whether the cutover event was reached
+abbrev pub end_answer : Bool → Answer
+end_answer ended = if ended then Done else Waiting
+
 -- the tables' rows, and then the import's line
 abbrev pub shown : List Table → List (List (List Value)) → ℕ → Bool → Outcome
 shown schema lists last ended = record {
-  answer = if ended then Done else Waiting;
+  answer = end_answer ended;
   text = tables_text schema lists ++ import_line ended last;
 }
 

@@ -5,5 +5,6 @@ pub mod DryRun
 pub mod Folding
 pub mod Files
 pub mod Stops
+pub mod Valid
 pub mod Printing
 pub mod Answered

@@ -1,5 +1,5 @@
 -- What a dry run prints of its fold, and what an output that fails answers.
-use Rattle.std.specs.Prelude.{◌≡◌, ◌≢◌, ◌++◌, ◌⊎◌, ℕ, List}
+use Rattle.std.specs.Prelude.{◌≡◌, ◌++◌, ◌⊎◌, ℕ, List}
 use Rattle.voy_report.specs.Show.{tables_text}
 use Rattle.voyager.specs.DryRun.{import_line}
 use Rattle.voyager.specs.declared.answer.Answer.{Answer}

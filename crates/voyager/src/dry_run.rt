@@ -6,9 +6,11 @@ ghost use Rattle.voyager.specs.Files.{IfTold, file_bytes, metadata_name, schema_
 ghost use Rattle.voyager.specs.Folding.{outcome_from};
 ghost use Rattle.voyager.specs.Segment.{event_lines};
 ghost use Rattle.voyager.specs.Stops.{StopsBy};
+ghost use Rattle.voyager.specs.Valid.{IsComplete};
 
 use crate::answer::{Answer, Cause, Which, disk_stop};
 use crate::fold::Fold;
+use crate::laws::valid_streams_fold;
 use crate::names::{metadata_file, schema_file};
 use crate::print::print_fold;
 use crate::segment::fold_segment;
@@ -27,10 +29,14 @@ pub fn dry_run<D: Disk, K: Sink>(
 ) -> Answer
     ensures cause { ComesFrom (D.files export.old) (D.files recording.old) (Rose (D.faults export.old) (D.faults export.new))
         (Rose (D.faults recording.old) (D.faults recording.new)) (Rose (K.faults out.old) (K.faults out.new)) result }
+    ensures complete { IsComplete (D.files export.old) (D.files recording.old) (Rose (D.faults export.old) (D.faults export.new))
+        (Rose (D.faults recording.old) (D.faults recording.new)) (Rose (K.faults out.old) (K.faults out.new)) result }
     ensures printed { IsPrinted (D.files export.old) (D.files recording.old) (K.written out.old) (K.written out.new) result }
     ensures export { D.files export.new ≡ D.files export.old }
     ensures recording { D.files recording.new ≡ D.files recording.old }
 {
+    // The law that `complete` rests on; there is nothing to run.
+    valid_streams_fold();
     let fold = match fold_recorded(alloc, recording, export) {
         Ok(fold) => fold,
         Err(stop) => return stop,

@@ -13,6 +13,7 @@ mod answer;
 mod command;
 mod dry_run;
 mod fold;
+mod laws;
 mod names;
 mod print;
 mod segment;
@@ -23,6 +24,7 @@ mod words;
 
 pub use answer::{Answer, Cause, Which};
 pub use command::{command, run};
+pub use laws::valid_streams_fold;
 use std::process::ExitCode;
 
 fn main(rt: HostRuntime) -> ExitCode {

@@ -1,4 +1,4 @@
-use Rattle.std.proofs.Common.{◌≡◌, ◌++◌, rules, ℕ, length, min, sym, ap, ◌∙◌, append-nil}
+use Rattle.std.proofs.Common.{◌≡◌, ◌++◌, rules, length, min, sym, ap, ◌∙◌, append-nil}
 use Rattle.std.proofs.lemmas.Slice.Zip.{zip_end}
 use Rattle.voyager.proofs.TextLaws.{tables_text-ended}
 use Rattle.voyager.proofs.print.append_tables.Goals as goal

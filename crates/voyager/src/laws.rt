@@ -1,0 +1,13 @@
+ghost use Rattle.voyager.specs.Valid.{ValidStreamsFold};
+
+use voy_tables::{empty_lists_have_no_rows, lists_are_tables, misfit_is_none_where_it_fits};
+
+/// Law: by a readable schema, a segment is folded to its end exactly where it is absent or states a
+/// stream of events whose changes are valid from no rows. There is nothing to run.
+pub fn valid_streams_fold()
+    ensures { ValidStreamsFold }
+{
+    lists_are_tables();
+    misfit_is_none_where_it_fits();
+    empty_lists_have_no_rows();
+}
