@@ -91,7 +91,7 @@ items_take schema (suc count) bytes items fit read =
     let first = item_takes schema line.0.0 item.0 item.1 in
     let rest = items_take schema count line.0.1 more.0 front.0.fit more.1 in
     let text : bytes ≡ item_part schema item.0 ++ flat_map (item_part schema) more.0 =
-        front.0.parts ∙ ap (λ (x : List ℕ). sized x ++ line.0.1) (sym first.1) ∙ ap (λ (x : List ℕ). item_part schema item.0 ++ x) rest.2 in
+    front.0.parts ∙ ap (λ (x : List ℕ). sized x ++ line.0.1) (sym first.1) ∙ ap (λ (x : List ℕ). item_part schema item.0 ++ x) rest.2 in
     let same : item.0 ∷ more.0 ≡ items = cc in
     subst (λ (x : List Event). AllByRecursion (IsLawfulItem schema) x × (length x ≡ suc count) × (bytes ≡ flat_map (item_part schema) x)) same
     ((first.0, rest.0), ap suc rest.1, text)

@@ -1,7 +1,7 @@
 -- A payload reads as a transaction exactly where it is the payload of it.
-use Rattle.std.proofs.Common.{◌≡◌, ℕ, suc, ◌≤◌, ◌<◌, ◌^◌, Bool, true, false, cond, eqb, leb, ltb, ◌&&◌, List, [], ◌∷◌, ◌++◌, length, Option, Some, None, refl, sym, ap, subst, ◌∙◌, append_assoc, arith}
-use Rattle.std.specs.List.{AllByRecursion, flat_map, slice_get}
-use Rattle.std.proofs.lemmas.Bool.{and_from, and_parts, eqb-true, le-leb, leb-true, lt-ltb, ltb-true}
+use Rattle.std.proofs.Common.{◌≡◌, ℕ, suc, ◌≤◌, ◌<◌, ◌^◌, Bool, true, false, cond, eqb, leb, ltb, ◌&&◌, List, [], ◌∷◌, ◌++◌, length, Option, Some, None, refl, sym, ap, subst, ◌∙◌, arith}
+use Rattle.std.specs.List.{flat_map, slice_get}
+use Rattle.std.proofs.lemmas.Bool.{and_parts, eqb-true, le-leb, leb-true, lt-ltb, ltb-true}
 use Rattle.std.proofs.lemmas.List.{append-nil, nil_from_length}
 use Rattle.std.proofs.lemmas.Option.{slice_get_within}
 use Rattle.voy_schema.specs.Lawful.{is_lawful, is_lawful_table}
@@ -10,13 +10,13 @@ use Rattle.voy_schema.specs.declared.table.Table.{Table}
 use Rattle.voy_schema.specs.declared.value.Value.{Value}
 use Rattle.voy_tables.specs.RowText.{row_lines}
 use Rattle.voy_event.specs.declared.event.Event.{Event}
-use Rattle.voy_txn.specs.LawfulTxn.{AreLawfulItems, AreLoaded, AreRowsOf, AreWritten, IsLawfulBatch, IsLawfulItem, IsLawfulTxn, IsPayload, max_channels, max_items}
+use Rattle.voy_txn.specs.LawfulTxn.{AreLawfulItems, AreLoaded, AreRowsOf, AreWritten, IsLawfulBatch, IsLawfulTxn, IsPayload, max_channels, max_items}
 use Rattle.voy_txn.specs.Laws.{PayloadsReadBack}
 use Rattle.voy_txn.specs.Payload.{batch_kind, events_kind, item_part, load_kind, number, payload_of, rows_part}
 use Rattle.voy_txn.specs.Reading.{◌>>=◌, ascending_items, batch_of, batch_rows, counted_rows, events_of, lists_of, load_of, number_at, part_at, txn_reading}
 use Rattle.voy_txn.specs.declared.txn.Txn.{Txn}
 use Rattle.voy_txn.specs.declared.txn.Txn.TheVariants.{Load, Batch, Events}
-use Rattle.voy_txn.proofs.FieldLemmas.{AreBytes, Takes, bind_some, number_again, number_takes, passed, takes_then}
+use Rattle.voy_txn.proofs.FieldLemmas.{AreBytes, bind_some, number_again, number_takes, passed}
 use Rattle.voy_txn.proofs.ItemLemmas.{ascending_again, ascending_take, items_take}
 use Rattle.voy_txn.proofs.RowLemmas.{counted_again, lists_again, lists_take, loaded_length, rows_part_again, rows_take}
 
@@ -38,7 +38,7 @@ load_takes schema fields txn lawful fit read =
     let loaded = lists_take schema count.0.1 lists.0 (tables_are_lawful schema lawful) front.0.fit lists.1 in
     let many : count.0.0 ≡ length lists.0 = eqb-true _ _ test.0 ∙ sym (loaded_length schema lists.0 loaded.0) in
     let text : fields ≡ number (length lists.0) ++ flat_map rows_part lists.0 =
-        front.0.parts ∙ ap (λ n. number n ++ count.0.1) many ∙ ap (λ (x : List ℕ). number (length lists.0) ++ x) loaded.1 in
+    front.0.parts ∙ ap (λ n. number n ++ count.0.1) many ∙ ap (λ (x : List ℕ). number (length lists.0) ++ x) loaded.1 in
     let made : IsRead schema load_kind fields (Load lists.0) = record { lawful = loaded.0; text = ap (λ (x : List ℕ). load_kind ∷ x) text } in
     let same : Load lists.0 ≡ txn = cc in
     subst (IsRead schema load_kind fields) same made
@@ -79,7 +79,7 @@ batch_takes schema fields txn lawful fit read =
     let second = number_takes table.0.1 batch.0 first.0.fit batch.1 in
     let third = batch_rows_in schema table.0.0 (slice_get schema table.0.0) batch.0.1 rows.0 lawful second.0.fit refl rows.1 in
     let text : fields ≡ number table.0.0 ++ (number batch.0.0 ++ rows_part rows.0) =
-        first.0.parts ∙ ap (λ (x : List ℕ). number table.0.0 ++ x) (second.0.parts ∙ ap (λ (x : List ℕ). number batch.0.0 ++ x) third.0) in
+    first.0.parts ∙ ap (λ (x : List ℕ). number table.0.0 ++ x) (second.0.parts ∙ ap (λ (x : List ℕ). number batch.0.0 ++ x) third.0) in
     let made : IsRead schema batch_kind fields (Batch table.0.0 batch.0.0 rows.0) = record {
       lawful = record { of_table = third.1; some = third.2; number = second.1 };
       text = ap (λ (x : List ℕ). batch_kind ∷ x) text;
@@ -103,8 +103,8 @@ events_take schema fields txn fit read =
     let up = ascending_take schema count.0.0 count.0.1 items.0 items.1 in
     let third = items_take schema count.0.0 count.0.1 items.0 second.0.fit up.0 in
     let text : fields ≡ number channel.0.0 ++ (number (length items.0) ++ flat_map (item_part schema) items.0) =
-        first.0.parts ∙ ap (λ (x : List ℕ). number channel.0.0 ++ x)
-        (second.0.parts ∙ ap (λ n. number n ++ count.0.1) (sym third.1) ∙ ap (λ (x : List ℕ). number (length items.0) ++ x) third.2) in
+    first.0.parts ∙ ap (λ (x : List ℕ). number channel.0.0 ++ x)
+    (second.0.parts ∙ ap (λ n. number n ++ count.0.1) (sym third.1) ∙ ap (λ (x : List ℕ). number (length items.0) ++ x) third.2) in
     let at_least : 1 ≤ count.0.0 = leb-true _ _ lower.1 in
     let at_most : count.0.0 ≤ max_items = leb-true _ _ bounds.1 in
     let made : IsRead schema events_kind fields (Events channel.0.0 items.0) = record {
@@ -189,8 +189,14 @@ events_again schema channel items lawful has =
     let below : channel < 2 ^ 32 = omega (arith, has.within) in
     let few : length items < 2 ^ 32 = omega (arith, has.most) in
     let text = flat_map (item_part schema) items in
-    rw (number_again channel (number (length items) ++ text) below, number_again (length items) text few, lt-ltb channel max_channels has.within,
-    le-leb 1 (length items) has.some, le-leb (length items) max_items has.most, ascending_again schema items lawful has.each has.ascend) refl
+    rw (
+      number_again channel (number (length items) ++ text) below,
+      number_again (length items) text few,
+      lt-ltb channel max_channels has.within,
+      le-leb 1 (length items) has.some,
+      le-leb (length items) max_items has.most,
+      ascending_again schema items lawful has.each has.ascend,
+    ) refl
 
 -- the payload of a lawful transaction reads as it
 pub payload_again : (schema : List Table) (txn : Txn) → is_lawful schema ≡ true → IsLawfulTxn schema txn → txn_reading schema (payload_of schema txn) ≡ Some txn

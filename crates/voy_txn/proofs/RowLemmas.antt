@@ -1,10 +1,9 @@
 -- The rows of a payload: what is read of them is what was written of them.
-use Rattle.std.proofs.Common.{◌≡◌, ℕ, zero, suc, ◌≤◌, ◌<◌, ◌^◌, true, false, cond, ◌&&◌, List, [], ◌∷◌, ◌++◌, get_or, length, Option, Some, None, Result, Ok, Err, refl, sym, ap, subst, ◌∙◌, append_assoc, arith}
+use Rattle.std.proofs.Common.{◌≡◌, ℕ, zero, suc, ◌<◌, ◌^◌, true, cond, List, [], ◌∷◌, ◌++◌, get_or, length, Some, None, Result, Ok, Err, refl, sym, ap, subst, ◌∙◌, arith}
 use Rattle.std.specs.Bool.{◌==◌}
 use Rattle.std.specs.List.{flat_map, list_all}
 use Rattle.std.specs.Result.{result_ok}
 use Rattle.std.proofs.lemmas.Bool.{and_parts, eqb-true}
-use Rattle.std.proofs.lemmas.List.{append-nil}
 use Rattle.voy_schema.specs.Lawful.{is_lawful_table}
 use Rattle.voy_schema.specs.LawfulLaws.{table_parts}
 use Rattle.voy_schema.specs.declared.table.Table.{Table}
@@ -14,7 +13,6 @@ use Rattle.voy_tables.specs.Readings.{rows_reading}
 use Rattle.voy_tables.specs.RowLaws.{is_written}
 use Rattle.voy_tables.specs.RowText.{row_lines}
 use Rattle.voy_tables.specs.Standing.{ascends}
-use Rattle.voy_tables.specs.declared.row_error.RowError.{RowError}
 use Rattle.voy_txn.specs.LawfulTxn.{AreLoaded, AreWritten}
 use Rattle.voy_txn.specs.Payload.{number, rows_part, sized}
 use Rattle.voy_txn.specs.Reading.{◌>>=◌, counted_rows, lists_of, part_at, sorted_rows}
@@ -57,9 +55,9 @@ rows_take t bytes part rows lawful fit read counted =
     let front = part_takes bytes part fit read in
     let are = counted_take t part.0 part.1 rows lawful counted in
     let by_count : Takes bytes (number (length rows) ++ sized part.1) part.2 =
-        subst (λ n. Takes bytes (number n ++ sized part.1) part.2) (sym are.count_is) front.0 in
+    subst (λ n. Takes bytes (number n ++ sized part.1) part.2) (sym are.count_is) front.0 in
     let text : Takes bytes (number (length rows) ++ sized (row_lines rows)) part.2 =
-        subst (λ (x : List ℕ). Takes bytes (number (length rows) ++ sized x) part.2) are.text_is by_count in
+    subst (λ (x : List ℕ). Takes bytes (number (length rows) ++ sized x) part.2) are.text_is by_count in
     let written : AreWritten t rows = record {
       each = are.each;
       count = omega (arith, front.1, are.count_is);

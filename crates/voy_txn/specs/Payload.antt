@@ -1,5 +1,5 @@
 -- The bytes of a transaction, as a store keeps it: a kind byte, and its fields. All numbers have four bytes.
-use Rattle.std.specs.Prelude.{ℕ, List, [], ◌∷◌, ◌++◌, length}
+use Rattle.std.specs.Prelude.{ℕ, List, ◌∷◌, ◌++◌, length}
 use Rattle.std.specs.Int.{to_be_bytes, w32}
 use Rattle.std.specs.List.{flat_map}
 use Rattle.voy_schema.specs.declared.table.Table.{Table}

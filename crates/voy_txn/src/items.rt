@@ -1,4 +1,4 @@
-ghost use Rattle.std.specs.Prelude.{◌≡◌, ◌++◌, ◌≤◌, ◌<◌, ◌^◌, length, OnOk, IfOk};
+ghost use Rattle.std.specs.Prelude.{◌≡◌, ◌++◌, OnOk, IfOk};
 ghost use Rattle.std.specs.List.{AllByRecursion, flat_map};
 ghost use Rattle.std.specs.Result.{result_ok};
 ghost use Rattle.std.specs.Str.{bytes_eq};
@@ -100,12 +100,7 @@ pub(crate) fn ascending_items(
 }
 
 /// Appends the canonical line of a change, behind the number of its bytes.
-fn push_item(
-    alloc: Global,
-    schema: &Schema,
-    to: &mut Bytes,
-    item: &Event,
-) -> Result<(), AllocError>
+fn push_item(alloc: Global, schema: &Schema, to: &mut Bytes, item: &Event) -> Result<(), AllocError>
     requires { IsLawfulItem schema.now.tables item.now }
     ensures { OnOk result (to.new ≡ to.old ++ item_part schema.now.tables item.now) }
 {

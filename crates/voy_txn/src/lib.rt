@@ -17,6 +17,8 @@ mod laws;
 mod limits;
 mod reading;
 mod rows;
+#[cfg(test)]
+mod tests;
 mod txn;
 mod unread;
 mod writing;

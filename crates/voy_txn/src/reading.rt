@@ -1,4 +1,4 @@
-ghost use Rattle.std.specs.Prelude.{◌≡◌, IfNone, IfOk, IfSome};
+ghost use Rattle.std.specs.Prelude.{IfNone, IfOk, IfSome};
 ghost use Rattle.voy_txn.specs.LawfulTxn.{IsPayload};
 ghost use Rattle.voy_txn.specs.Reading.{Gives, batch_of, events_of, load_of, txn_reading};
 ghost use Rattle.voy_txn.specs.declared.txn.Txn.{Txn as Transaction};

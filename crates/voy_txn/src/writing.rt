@@ -1,4 +1,4 @@
-ghost use Rattle.std.specs.Prelude.{◌≡◌, ◌++◌, ◌≤◌, length, IfOk, OnErr, OnOk};
+ghost use Rattle.std.specs.Prelude.{◌≡◌, ◌++◌, IfOk, OnErr, OnOk};
 ghost use Rattle.std.specs.List.{flat_map};
 ghost use Rattle.voy_txn.specs.LawfulTxn.{AreLoaded, IsLawfulTxn};
 ghost use Rattle.voy_txn.specs.Payload.{payload_of, rows_part};
