@@ -1,5 +1,5 @@
 use std::alloc::AllocError;
-use voy_schema::Copies;
+use voy_schema::{Copies, Items};
 use voy_tables::{Change, Role};
 
 /// An event of the queue.
@@ -11,6 +11,9 @@ pub struct Event {
     pub role: Role,
     pub what: What,
 }
+
+/// Events, in the order of their numbers where no other is stated.
+pub type Events = Items<Event>;
 
 /// What an event says.
 #[derive(Debug, Drop)]

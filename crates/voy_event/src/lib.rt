@@ -24,7 +24,7 @@ mod recorded_line;
 mod tests;
 mod words;
 
-pub use event::{Event, What};
+pub use event::{Event, Events, What};
 pub use event_line::read_line;
 pub use laws::events_read_back;
 pub use limits::{MAX_EVENT_LINE_BYTES, MAX_RECORDED_LINE_BYTES};

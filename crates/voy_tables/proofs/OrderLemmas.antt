@@ -1,5 +1,6 @@
 -- The order of keys, and rows that ascend by it.
-use Rattle.std.proofs.Common.{◌≡◌, ℕ, Bool, true, false, List, [], ◌∷◌, refl, sym, ap, ◌∙◌, subst, Ordering}
+use Rattle.std.proofs.Common.{◌≡◌, ℕ, zero, suc, ◌+◌, ◌-◌, ◌<◌, ◌≤◌, Bool, true, false, ◌&&◌, List, [], ◌∷◌, drop, get_or, length, refl, sym, ap, ◌∙◌, subst, arith, Ordering}
+use Rattle.std.proofs.Math.Seq.{drop-cons, drop-nil}
 use Rattle.std.specs.Cmp.{IsTotalOrder}
 use Rattle.std.specs.Cmp.Lexicographic.{lists_ties, lists_total, nat_list_cmp_total, slice_cmp, texts_ties}
 use Rattle.std.specs.List.{list_all}
@@ -93,3 +94,49 @@ ascends-without_key t key (r ∷ rows) up =
     by : (same : Bool) → ascends t (without_key t key rows) ≡ true → ascends t (if same then rows else r ∷ without_key t key rows) ≡ true
     by true rest = (and_parts _ _ up).1
     by false rest = and_from _ _ (list_all-without_key (is_below t r) t key rows (and_parts _ _ up).0) rest
+
+-- rows ascend exactly where the first is below the second and those from the second on ascend
+pub ascends-from_first : (t : Table) (a b : List Value) (rows : List (List Value))
+    → ascends t (a ∷ b ∷ rows) ≡ (is_below t a b && ascends t (b ∷ rows))
+ascends-from_first t a b rows = by (is_below t a b) refl (ascends t (b ∷ rows)) refl where
+  by : (below : Bool) → is_below t a b ≡ below → (up : Bool) → ascends t (b ∷ rows) ≡ up
+      → ((is_below t a b && list_all (is_below t a) rows) && ascends t (b ∷ rows)) ≡ (is_below t a b && ascends t (b ∷ rows))
+  by false first up rest = rw first refl
+  by true first false rest = rw (first, rest) (by_nothing (list_all (is_below t a) rows)) where
+    by_nothing : (x : Bool) → (x && false) ≡ false
+    by_nothing true = refl
+    by_nothing false = refl
+  by true first true rest = rw (first, rest, all_below-trans t a b rows first (and_parts _ _ rest).0) refl
+
+-- the rows from one place on begin with the two that stand there
+two_at : (rows : List (List Value)) (k : ℕ) (a b : List Value) → suc k < length rows → a ≡ get_or rows k a → b ≡ get_or rows (suc k) b
+    → drop k rows ≡ a ∷ b ∷ drop (suc (suc k)) rows
+two_at rows k a b within first second =
+    let at_first : drop k rows ≡ get_or rows k a ∷ drop (suc k) rows = drop-cons rows k a (omega arith) in
+    let at_second : drop (suc k) rows ≡ get_or rows (suc k) b ∷ drop (suc (suc k)) rows = drop-cons rows (suc k) b within in
+    cc
+
+-- whether the rows from one place on ascend, by the two that stand there and those from the second on
+pub ascends_on : (t : Table) (rows : List (List Value)) (i : ℕ) (a b : List Value) → 1 ≤ i → i < length rows
+    → a ≡ get_or rows (i - 1) a → b ≡ get_or rows i b
+    → ascends t (drop (i - 1) rows) ≡ (is_below t a b && ascends t (drop (i + 1 - 1) rows))
+ascends_on t rows zero a b from within first second = absurd (omega arith)
+ascends_on t rows (suc k) a b from within first second =
+    let before : suc k - 1 ≡ k = omega arith in
+    let after : suc k + 1 - 1 ≡ suc k = omega arith in
+    let here : a ≡ get_or rows k a = first ∙ ap (λ n. get_or rows n a) before in
+    let two = two_at rows k a b within here second in
+    let rest : drop (suc k) rows ≡ b ∷ drop (suc (suc k)) rows = drop-cons rows (suc k) b within ∙ ap (λ x. x ∷ drop (suc (suc k)) rows) (sym second) in
+    rw (before, after, two, rest) (ascends-from_first t a b (drop (suc (suc k)) rows))
+
+-- at most one row ascends
+pub ascends-last : (t : Table) (rows : List (List Value)) (i : ℕ) → length rows ≤ i → ascends t (drop (i - 1) rows) ≡ true
+ascends-last t [] i past = rw (drop-nil {A = List Value} (i - 1)) refl
+ascends-last t (row ∷ rows) zero past = absurd (omega arith)
+ascends-last t (row ∷ rows) (suc zero) past = by rows (omega arith) where
+  by : (rest : List (List Value)) → length rest ≤ 0 → ascends t (row ∷ rest) ≡ true
+  by [] none = refl
+  by (r ∷ rest) none = absurd (omega arith)
+ascends-last t (row ∷ rows) (suc (suc i)) past =
+    let fewer : suc (suc i) - 1 ≡ suc (suc i - 1) = omega arith in
+    rw fewer (ascends-last t rows (suc i) (omega arith))

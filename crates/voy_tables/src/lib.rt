@@ -11,6 +11,7 @@
 //! text reads as rows exactly where it is what they are written as, byte for byte, and each is lawful.
 #![tactic(auto)]
 
+mod ascending;
 mod change;
 mod escaping;
 mod field_value;
@@ -29,6 +30,7 @@ mod row_size;
 mod row_text;
 mod text_record;
 
+pub use ascending::rows_ascend;
 pub use change::{Change, Misfit, PlainError, Role, RowLists, Side, Spot};
 pub use forming::well_formed;
 pub use keys::key_of;

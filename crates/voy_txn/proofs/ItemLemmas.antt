@@ -1,0 +1,120 @@
+-- The changes of a payload: what is read of them is what was written of them.
+use Rattle.std.proofs.Common.{◌≡◌, ℕ, zero, suc, ◌≤◌, ◌<◌, ◌^◌, Bool, true, false, cond, ltb, ◌&&◌, List, [], ◌∷◌, ◌++◌, length, Option, Some, None, Result, Ok, Err, refl, sym, ap, subst, ◌∙◌, arith}
+use Rattle.std.specs.List.{AllByRecursion, flat_map}
+use Rattle.std.specs.Result.{result_ok}
+use Rattle.std.specs.Str.{bytes_eq}
+use Rattle.std.proofs.lemmas.Bool.{and_from, and_parts, ltb-false}
+use Rattle.std.proofs.lemmas.Slice.Eq.{bytes_eq-Decides}
+use Rattle.voy_schema.specs.Lawful.{is_lawful}
+use Rattle.voy_schema.specs.declared.table.Table.{Table}
+use Rattle.voy_event.proofs.ReadBack.{events_read_back}
+use Rattle.voy_event.specs.EventLaws.{event_is_lawful}
+use Rattle.voy_event.specs.EventLine.{line_reading, max_event_line_bytes}
+use Rattle.voy_event.specs.LineText.{line_text}
+use Rattle.voy_event.specs.declared.event.Event.{Event}
+use Rattle.voy_event.specs.declared.line_error.LineWhy.{LineWhy}
+use Rattle.voy_event.specs.declared.line_error.LineWhy.TheVariants as why
+use Rattle.voy_txn.specs.LawfulTxn.{IsLawfulItem, ascend_above, is_change}
+use Rattle.voy_txn.specs.Payload.{item_part, sized}
+use Rattle.voy_txn.specs.Reading.{◌>>=◌, ascending_items, item_of, items_of, sized_at}
+use Rattle.voy_txn.proofs.FieldLemmas.{AreBytes, bind_some, passed, sized_again, sized_takes}
+use Rattle.voy_txn.proofs.RowLemmas.{ok_from_some}
+
+-- a reading that is behind the test of a length
+within_length : (b : Bool) (r : Result Event LineWhy) (e : Event) → cond b (Err why.TooLong) r ≡ Ok e → b ≡ false
+within_length true r e read = absurd cc
+within_length false r e read = refl
+
+-- a line that was read is within its limit
+line_is_short : (schema : List Table) (line : List ℕ) (e : Event) → line_reading schema line ≡ Ok e → length line ≤ max_event_line_bytes
+line_is_short schema line e read =
+    ltb-false max_event_line_bytes (length line) (within_length (ltb max_event_line_bytes (length line)) _ e read)
+
+pub item_takes : (schema : List Table) (line : List ℕ) (item : Event) → item_of schema line ≡ Some item
+    → IsLawfulItem schema item × (line_text schema item ≡ line)
+unfolding item_of
+item_takes schema line item read =
+    let step = bind_some (result_ok (line_reading schema line)) (λ (e : Event). cond (is_change e.what && bytes_eq (line_text schema e) line) (Some e) None) item read in
+    let test = passed (is_change step.0.what && bytes_eq (line_text schema step.0) line) step.0 item step.2 in
+    let parts = and_parts (is_change step.0.what) (bytes_eq (line_text schema step.0) line) test.0 in
+    let stated : line_reading schema line ≡ Ok step.0 = ok_from_some _ _ step.1 in
+    let canonical : line_text schema step.0 ≡ line = (bytes_eq-Decides (line_text schema step.0) line).0 parts.1 in
+    let made : IsLawfulItem schema step.0 = record {
+      event = event_is_lawful schema line step.0 stated;
+      change = parts.0;
+      short = subst (λ (x : List ℕ). length x ≤ max_event_line_bytes) (sym canonical) (line_is_short schema line step.0 stated);
+    } in
+    subst (λ (x : Event). IsLawfulItem schema x × (line_text schema x ≡ line)) test.1 (made, canonical)
+
+pub item_again : (schema : List Table) (item : Event) → is_lawful schema ≡ true → IsLawfulItem schema item
+    → item_of schema (line_text schema item) ≡ Some item
+unfolding item_of
+item_again schema item lawful has =
+    let text = line_text schema item in
+    let read : line_reading schema text ≡ Ok item = events_read_back schema item lawful has.event has.short in
+    let canonical : bytes_eq text text ≡ true = (bytes_eq-Decides text text).1 refl in
+    let both : (is_change item.what && bytes_eq text text) ≡ true = and_from _ _ has.change canonical in
+    ap (λ (r : Result Event LineWhy). result_ok r >>= λ (e : Event). cond (is_change e.what && bytes_eq (line_text schema e) text) (Some e) None) read
+    ∙ ap (λ (b : Bool). cond b (Some item) None) both
+
+-- what the reading of a line gives, by the event that it states
+item_by : (schema : List Table) (line : List ℕ) (item : Event) (b : Bool) → result_ok (line_reading schema line) ≡ Some item
+    → (is_change item.what && bytes_eq (line_text schema item) line) ≡ b → item_of schema line ≡ cond b (Some item) None
+unfolding item_of
+item_by schema line item b stated is =
+    ap (λ (o : Option Event). o >>= λ (e : Event). cond (is_change e.what && bytes_eq (line_text schema e) line) (Some e) None) stated
+    ∙ ap (λ (x : Bool). cond x (Some item) None) is
+
+pub item_is : (schema : List Table) (line : List ℕ) (item : Event) → result_ok (line_reading schema line) ≡ Some item
+    → is_change item.what ≡ true → bytes_eq (line_text schema item) line ≡ true → item_of schema line ≡ Some item
+item_is schema line item stated change canonical = item_by schema line item true stated (and_from _ _ change canonical)
+
+pub item_is_none : (schema : List Table) (line : List ℕ) (item : Event) → result_ok (line_reading schema line) ≡ Some item
+    → bytes_eq (line_text schema item) line ≡ false → item_of schema line ≡ None
+item_is_none schema line item stated other = item_by schema line item false stated (ap (λ b. is_change item.what && b) other ∙ nothing (is_change item.what)) where
+  nothing : (b : Bool) → (b && false) ≡ false
+  nothing true = refl
+  nothing false = refl
+
+pub items_take : (schema : List Table) (count : ℕ) (bytes : List ℕ) (items : List Event) → AreBytes bytes → items_of schema count bytes ≡ Some items
+    → AllByRecursion (IsLawfulItem schema) items × (length items ≡ count) × (bytes ≡ flat_map (item_part schema) items)
+unfolding items_of
+items_take schema zero [] items fit read =
+    let same : ◌≡◌ {A = List Event} [] items = cc in
+    subst (λ (x : List Event). AllByRecursion (IsLawfulItem schema) x × (length x ≡ 0) × ([] ≡ flat_map (item_part schema) x)) same (tt, refl, refl)
+items_take schema zero (b ∷ bytes) items fit read = absurd cc
+items_take schema (suc count) bytes items fit read =
+    let line = bind_some (sized_at bytes) (λ line. item_of schema line.0 >>= λ item. items_of schema count line.1 >>= λ more. Some (item ∷ more)) items read in
+    let item = bind_some (item_of schema line.0.0) (λ item. items_of schema count line.0.1 >>= λ more. Some (item ∷ more)) items line.2 in
+    let more = bind_some (items_of schema count line.0.1) (λ more. Some (item.0 ∷ more)) items item.2 in
+    let front = sized_takes bytes line.0 fit line.1 in
+    let first = item_takes schema line.0.0 item.0 item.1 in
+    let rest = items_take schema count line.0.1 more.0 front.0.fit more.1 in
+    let text : bytes ≡ item_part schema item.0 ++ flat_map (item_part schema) more.0 =
+    front.0.parts ∙ ap (λ (x : List ℕ). sized x ++ line.0.1) (sym first.1) ∙ ap (λ (x : List ℕ). item_part schema item.0 ++ x) rest.2 in
+    let same : item.0 ∷ more.0 ≡ items = cc in
+    subst (λ (x : List Event). AllByRecursion (IsLawfulItem schema) x × (length x ≡ suc count) × (bytes ≡ flat_map (item_part schema) x)) same
+    ((first.0, rest.0), ap suc rest.1, text)
+
+pub items_again : (schema : List Table) (items : List Event) → is_lawful schema ≡ true → AllByRecursion (IsLawfulItem schema) items
+    → items_of schema (length items) (flat_map (item_part schema) items) ≡ Some items
+unfolding items_of
+items_again schema [] lawful each = refl
+items_again schema (item ∷ items) lawful each =
+    let short : length (line_text schema item) < 2 ^ 32 = omega (arith, each.0.short) in
+    rw (sized_again (line_text schema item) (flat_map (item_part schema) items) short, item_again schema item lawful each.0, items_again schema items lawful each.1) refl
+
+-- ---- by ascending vsn
+
+pub ascending_take : (schema : List Table) (count : ℕ) (bytes : List ℕ) (items : List Event)
+    → ascending_items schema count bytes ≡ Some items → (items_of schema count bytes ≡ Some items) × (ascend_above 0 items ≡ true)
+unfolding ascending_items
+ascending_take schema count bytes items read =
+    let step = bind_some (items_of schema count bytes) (λ (items : List Event). cond (ascend_above 0 items) (Some items) None) items read in
+    let test = passed (ascend_above 0 step.0) step.0 items step.2 in
+    (subst (λ (x : List Event). items_of schema count bytes ≡ Some x) test.1 step.1, subst (λ (x : List Event). ascend_above 0 x ≡ true) test.1 test.0)
+
+pub ascending_again : (schema : List Table) (items : List Event) → is_lawful schema ≡ true → AllByRecursion (IsLawfulItem schema) items
+    → ascend_above 0 items ≡ true → ascending_items schema (length items) (flat_map (item_part schema) items) ≡ Some items
+unfolding ascending_items
+ascending_again schema items lawful each up = rw (items_again schema items lawful each, up) refl

@@ -1,0 +1,5 @@
+pub mod FieldLemmas
+pub mod RowLemmas
+pub mod ItemLemmas
+pub mod PayloadLemmas
+pub mod LoopLemmas

@@ -1,0 +1,5 @@
+use Rattle.voy_txn.proofs.PayloadLemmas.{one_transaction}
+use Rattle.voy_txn.proofs.laws.payloads_read_back.Goals as goal
+
+pub returns : goal.returns
+returns c = one_transaction

@@ -1,0 +1,4 @@
+pub mod Payload
+pub mod LawfulTxn
+pub mod Reading
+pub mod Laws

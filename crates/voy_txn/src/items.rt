@@ -1,0 +1,126 @@
+ghost use Rattle.std.specs.Prelude.{◌≡◌, ◌++◌, OnOk, IfOk};
+ghost use Rattle.std.specs.List.{AllByRecursion, flat_map};
+ghost use Rattle.std.specs.Result.{result_ok};
+ghost use Rattle.std.specs.Str.{bytes_eq};
+ghost use Rattle.voy_event.specs.EventLine.{line_reading};
+ghost use Rattle.voy_event.specs.LawfulEvent.{IsLawful, IsWritable};
+ghost use Rattle.voy_event.specs.LineText.{line_text};
+ghost use Rattle.voy_txn.specs.LawfulTxn.{IsLawfulItem, is_change};
+ghost use Rattle.voy_txn.specs.Payload.{item_part};
+ghost use Rattle.voy_txn.specs.Reading.{Gives, ascending_items, item_of, items_of};
+
+use crate::ascending::vsns_ascend;
+use crate::fields::{push_sized, sized_of};
+use crate::unread::Unread;
+use std::alloc::{AllocError, Global};
+use voy_event::{Event, Events, LineError, What, read_line, write_line};
+use voy_schema::{Bytes, Schema};
+
+/// The event that `line` states.
+fn event_of(alloc: Global, schema: &Schema, line: &[u8]) -> Result<Event, Unread>
+    ensures stated { Gives (λ event. event) result (result_ok (line_reading schema.now.tables line.now)) }
+    ensures lawful { IfOk result (IsLawful schema.now.tables) }
+{
+    match read_line(alloc, schema, line) {
+        Ok(event) => Ok(event),
+        Err(LineError::Bad(_)) => Err(Unread::NoPayload),
+        Err(LineError::NoMemory) => Err(Unread::NoMemory),
+    }
+}
+
+fn is_change(what: &What) -> bool
+    ensures { result ≡ is_change what.now }
+{
+    matches!(what, What::Change(_))
+}
+
+/// Whether `line` is the canonical line of the event.
+fn is_canonical(
+    alloc: Global,
+    schema: &Schema,
+    event: &Event,
+    line: &[u8],
+) -> Result<bool, AllocError>
+    requires { IsWritable schema.now.tables event.now }
+    ensures { IfOk result (λ b. b ≡ bytes_eq (line_text schema.now.tables event.now) line.now) }
+{
+    let mut canonical = Bytes::new(alloc);
+    write_line(alloc, schema, event, &mut canonical)?;
+    Ok(canonical.as_slice() == line)
+}
+
+/// The change that `line` states, where it is the canonical line.
+#[tactic(auto, using(voy_event::specs::EventLaws::lawful_is_writable), unfolding(crate::specs::Reading::item_of))]
+fn item_of(alloc: Global, schema: &Schema, line: &[u8]) -> Result<Event, Unread>
+    ensures { Gives (λ item. item) result (item_of schema.now.tables line.now) }
+{
+    let item = event_of(alloc, schema, line)?;
+    if !is_change(&item.what) {
+        return Err(Unread::NoPayload);
+    }
+    if !is_canonical(alloc, schema, &item, line)? {
+        return Err(Unread::NoPayload);
+    }
+    Ok(item)
+}
+
+/// So many changes, where `bytes` are their lines and nothing more.
+fn items_of(alloc: Global, schema: &Schema, count: u32, bytes: &[u8]) -> Result<Events, Unread>
+    ensures { Gives (λ items. items) result (items_of schema.now.tables count bytes.now) }
+{
+    let mut items = Events::new(alloc);
+    let mut rest = bytes;
+    for _ in 0..count {
+        let (line, after) = sized_of(rest)?;
+        let item = item_of(alloc, schema, line)?;
+        items.push(item)?;
+        rest = after;
+    }
+    if !rest.is_empty() {
+        return Err(Unread::NoPayload);
+    }
+    Ok(items)
+}
+
+/// The same where their vsns ascend.
+#[tactic(auto, unfolding(crate::specs::Reading::ascending_items))]
+pub(crate) fn ascending_items(
+    alloc: Global,
+    schema: &Schema,
+    count: u32,
+    bytes: &[u8],
+) -> Result<Events, Unread>
+    ensures { Gives (λ items. items) result (ascending_items schema.now.tables count bytes.now) }
+{
+    let items = items_of(alloc, schema, count, bytes)?;
+    if !vsns_ascend(items.as_slice()) {
+        return Err(Unread::NoPayload);
+    }
+    Ok(items)
+}
+
+/// Appends the canonical line of a change, behind the number of its bytes.
+fn push_item(alloc: Global, schema: &Schema, to: &mut Bytes, item: &Event) -> Result<(), AllocError>
+    requires { IsLawfulItem schema.now.tables item.now }
+    ensures { OnOk result (to.new ≡ to.old ++ item_part schema.now.tables item.now) }
+{
+    let mut line = Bytes::new(alloc);
+    write_line(alloc, schema, item, &mut line)?;
+    push_sized(to, line.as_slice())
+}
+
+/// Appends the lines of these changes, each behind the number of its bytes.
+pub(crate) fn push_items(
+    alloc: Global,
+    schema: &Schema,
+    to: &mut Bytes,
+    items: &[Event],
+) -> Result<(), AllocError>
+    requires { AllByRecursion (IsLawfulItem schema.now.tables) items.now }
+    ensures { OnOk result (to.new ≡ to.old ++ flat_map (item_part schema.now.tables) items.now) }
+{
+    for item in items {
+        push_item(alloc, schema, to, item)?;
+    }
+    Ok(())
+}

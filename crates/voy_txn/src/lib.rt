@@ -1,0 +1,30 @@
+//! Transactions of a store, and the bytes that a store keeps of them.
+//!
+//! A [`Txn`] is one step of a store: the one load of all tables, a batch of snapshot rows with its
+//! marker, or a run of changes of one channel. [`write_txn`] appends its payload, and [`read_txn`] gives
+//! the transaction whose payload bytes are.
+//!
+//! The clause to believe is `IsPayload` of `specs/LawfulTxn.antt`: the transaction is lawful for the
+//! schema, and the bytes are exactly `payload_of` it (`specs/Payload.antt`). What is read is such a
+//! transaction, and where none is read there is no such transaction. The law [`payloads_read_back`] says
+//! that bytes are the payload of one transaction at most, so what is written reads back as the same.
+#![tactic(auto)]
+
+mod ascending;
+mod fields;
+mod items;
+mod laws;
+mod limits;
+mod reading;
+mod rows;
+#[cfg(test)]
+mod tests;
+mod txn;
+mod unread;
+mod writing;
+
+pub use laws::payloads_read_back;
+pub use limits::{MAX_CHANNELS, MAX_TXN_ITEMS};
+pub use reading::read_txn;
+pub use txn::Txn;
+pub use writing::write_txn;

@@ -1,0 +1,17 @@
+/// Channels are numbered from 0 to below this. A payload with another channel is none.
+pub const MAX_CHANNELS: u32 = 512;
+
+/// The most changes of one transaction. A payload with more is none.
+pub const MAX_TXN_ITEMS: u32 = 1_000;
+
+/// The bytes of a number in a payload.
+pub(crate) const NUMBER_BYTES: usize = 4;
+
+/// The first byte of a load's payload.
+pub(crate) const LOAD_KIND: u8 = b'L';
+
+/// The first byte of a batch's payload.
+pub(crate) const BATCH_KIND: u8 = b'B';
+
+/// The first byte of the payload of a run of changes.
+pub(crate) const EVENTS_KIND: u8 = b'E';
