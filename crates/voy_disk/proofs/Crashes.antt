@@ -1,5 +1,5 @@
 -- What a crash leaves of the files of a disk in memory.
-use Rattle.std.proofs.Common.{true≢false, ◌≡◌, ◌≤◌, ◌<◌, ◌+◌, ◌%◌, ◌⊎◌, inl, inr, ⊎_elim, ℕ, zero, suc, List, [], ◌∷◌, ◌++◌, Bool, true, false, Option, Some, None, length, take, drop, refl, sym, ap, ◌∙◌, arith}
+use Rattle.std.proofs.Common.{true≢false, ◌≡◌, ◌≤◌, ◌+◌, ◌%◌, ◌⊎◌, inl, inr, ⊎_elim, ℕ, zero, suc, List, [], ◌∷◌, ◌++◌, Bool, true, false, Option, Some, None, length, take, drop, refl, sym, ◌∙◌, arith}
 use Rattle.std.proofs.Math.Seq.{drop-nil}
 use Rattle.std.proofs.lemmas.Bool.{false_from_ne_true}
 use Rattle.std.proofs.lemmas.Nat.{mod_below}
@@ -60,9 +60,9 @@ module _ {Y : Type 0} where
           let turned : bytes_eq q (string_bytes key) ≡ false = false_from_ne_true _ (λ same. true≢false (sym ((bytes_eq-Decides (string_bytes key) q).1 (sym ((bytes_eq-Decides q (string_bytes key)).0 same))) ∙ apart)) in
           let other = is_eq-slice_cmp q (string_bytes key) ∙ turned in
           ⊎_elim
-            (λ is_left. inl (rw (updates q, apart) is_left))
-            (λ still. inr (rw (updates q, apart) still.0, rw other at still.1))
-            (so_far q)
+          (λ is_left. inl (rw (updates q, apart) is_left))
+          (λ still. inr (rw (updates q, apart) still.0, rw other at still.1))
+          (so_far q)
 
   -- with nothing more to come, every file was left
   pub all_left : (old left : BTreeMap (String Y) MemFile) → ((q : List ℕ) → LeftSoFar old left [] q) → Outage (files_of old) (files_of left)

@@ -1,15 +1,15 @@
 -- From a change of the files of a disk in memory to what its call leaves.
-use Rattle.std.proofs.Common.{true≢false, Option, None, ◌≡◌, ◌≤◌, ◌∙◌, ◌-◌, ap, refl, sym, subst, ℕ, List, Bool, true, false, Some, Result, Ok, Err, OnOk, OnErr, IfErr, length, length-take, take, is_ok, arith}
+use Rattle.std.proofs.Common.{true≢false, Option, None, ◌≡◌, ◌≤◌, ◌∙◌, ◌-◌, ap, refl, sym, subst, ℕ, List, true, false, Some, Result, Ok, Err, OnOk, OnErr, IfErr, length, length-take, take, is_ok, arith}
 use Rattle.std.proofs.Math.Seq.{take-length}
 use Rattle.std.specs.declared.alloc.AllocError.{AllocError}
 use Rattle.voy_disk.specs.Calls.{Changes, CutFailed, IsThereWith, Leaves, Smeared, SyncFailed, Synced, WasCut, Wrote, told}
-use Rattle.voy_disk.specs.File.{File, IsImage, settled, touch, written}
+use Rattle.voy_disk.specs.File.{File, IsImage, touch, written}
 use Rattle.voy_disk.specs.FileLaws.{one_image, some_same}
 use Rattle.voy_disk.specs.Files.{Files, ReadsImages, length_of}
 use Rattle.voy_disk.specs.ImageLaws.{if_some_at}
 use Rattle.voy_disk.specs.MemFiles.{KeptFront, Overwrote, answer_of}
 use Rattle.voy_disk.specs.declared.disk.DiskError.{DiskError}
-use Rattle.voy_disk.specs.declared.disk.DiskError.TheVariants.{Failed, NoMemory}
+use Rattle.voy_disk.specs.declared.disk.DiskError.TheVariants.{Failed}
 use Rattle.voy_disk.proofs.Ranges.{cut_outside, written_outside}
 
 module _ (R S : Files → Files → Type 0) (old new : Files) where
@@ -61,7 +61,7 @@ module _ (name : List ℕ) (old new : Files) (at part : ℕ) (bytes : List ℕ) 
   pub wrote_part : IsThereWith (λ file. at ≤ length file.now) (old name) → Changes (Overwrote at (take part bytes) (length bytes)) name old new → Changes (Smeared at (length bytes)) name old new
   wrote_part is_there change =
       changes_as name old new _ (Smeared at (length bytes)) change (λ f g was overwrote.
-        smeared at (length bytes) (take part bytes) f g (rw was at is_there) (omega (arith, length-take part bytes)) overwrote)
+      smeared at (length bytes) (take part bytes) f g (rw was at is_there) (omega (arith, length-take part bytes)) overwrote)
 
 -- the length that was found is that of the file that is there
 length_there : (to n : ℕ) (found : Option File) → length_of found ≡ Some n → IsThereWith (λ file. to ≤ length file.now) found → to ≤ n
@@ -83,7 +83,7 @@ module _ (name : List ℕ) (old new : Files) (to gone n : ℕ) (is : length_of (
   cut_part within change =
       let low = length_there to n (old name) is is_there in
       changes_as name old new _ (CutFailed to) change (λ f g was kept.
-        cut_smeared to (n - gone) f g (omega (arith, within, low)) (omega (arith, length_at n (old name) f is was)) kept)
+      cut_smeared to (n - gone) f g (omega (arith, within, low)) (omega (arith, length_at n (old name) f is was)) kept)
 
 -- a file that is there, as it is
 pub unchanged : (R : File → File → Type 0) (P : File → Type 0) (name : List ℕ) (files : Files) → IsThereWith P (files name) → ((file : File) → R file file) → Changes R name files files

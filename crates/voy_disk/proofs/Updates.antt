@@ -43,6 +43,7 @@ module _ {Y : Type 0} where
       by_name : (q : List ℕ) (b : Bool) → bytes_eq name q ≡ b → files_of new q ≡ files_of old q
       by_name q true here = rw (updates q, here, same, sym ((bytes_eq-Decides name q).0 here), was) refl
       by_name q false apart = rw (updates q, apart) refl
+
       at_each : (q : List ℕ) → files_of new q ≡ files_of old q
       at_each q = by_name q (bytes_eq name q) refl
 
@@ -65,7 +66,7 @@ module _ {Y : Type 0} where
         moved = rw (removed to, apart, put to, itself, same, was) refl;
         gone = rw (removed from, here) refl;
         others = λ q not_from not_to.
-          let a : bytes_eq from q ≡ false = false_from_ne_true _ (λ alike. not_from (sym ((bytes_eq-Decides from q).0 alike))) in
-          let b : bytes_eq to q ≡ false = false_from_ne_true _ (λ alike. not_to (sym ((bytes_eq-Decides to q).0 alike))) in
-          rw (removed q, a, put q, b) refl;
+            let a : bytes_eq from q ≡ false = false_from_ne_true _ (λ alike. not_from (sym ((bytes_eq-Decides from q).0 alike))) in
+            let b : bytes_eq to q ≡ false = false_from_ne_true _ (λ alike. not_to (sym ((bytes_eq-Decides to q).0 alike))) in
+            rw (removed q, a, put q, b) refl;
       }

@@ -1,6 +1,6 @@
 -- Laws of lawful steps that lead from one reading to another.
 use Rattle.std.proofs.Common.{◌≡◌, ◌∙◌, ap, refl, subst, sym, List, [], ◌∷◌, ◌++◌}
-use Rattle.voy_disk.specs.Steps.{Every, Follows, Goes, Lawful, Reaches, after_all}
+use Rattle.voy_disk.specs.Steps.{Every, Goes, Lawful, Reaches, after_all}
 use Rattle.voy_disk.specs.StepLaws.{every_along, follows_on}
 
 module _ {R K : Type 0} (step : R → K → R) (may : R → K → Type 0) where

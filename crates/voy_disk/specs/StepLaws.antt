@@ -1,6 +1,6 @@
 -- Laws of the steps that lead from the images before a call to those after it.
-use Rattle.std.proofs.Common.{◌≡◌, ◌⊎◌, inl, inr, ℕ, zero, suc, List, [], ◌∷◌, refl}
-use Rattle.voy_disk.specs.Steps.{Every, From, Follows, StaysTold, Same, SomeFirst, LeavesPrefix, after_all, Lawful, Reaches, Goes}
+use Rattle.std.proofs.Common.{◌⊎◌, inl, inr, zero, suc, List, [], ◌∷◌, refl}
+use Rattle.voy_disk.specs.Steps.{Every, Follows, StaysTold, Same, SomeFirst}
 
 module _ {I : Type 0} where
   -- where nothing was done, each image stays
@@ -13,10 +13,12 @@ module _ {I : Type 0} where
 
   -- one call after another
   pub follows_on : {s t u : I → I → Type 0} {a b c : I → Type 0} → Follows s a b → Follows t b c → ((i j k : I) → s i j → t j k → u i k) → Follows u a c
-  follows_on f g on = record { from = λ k is.
-    let y = g.from k is in
-    let x = f.from y.before y.was in
-    record { before = x.before; was = x.was; by = on x.before y.before k x.by y.by } }
+  follows_on f g on = record {
+    from = λ k is.
+        let y = g.from k is in
+        let x = f.from y.before y.was in
+        record { before = x.before; was = x.was; by = on x.before y.before k x.by y.by };
+  }
 
   -- what the step hands on from each image, each image after has
   pub every_along : {s : I → I → Type 0} {a b : I → Type 0} {P Q : I → Type 0} → Every a P → Follows s a b → ((i j : I) → P i → s i j → Q j) → Every b Q

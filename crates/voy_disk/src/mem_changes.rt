@@ -27,7 +27,12 @@ pub(crate) fn write_in(
 
 // Keeps the first `keep` bytes of the file, and touches all from the place `to`. After an error nothing
 // changed.
-pub(crate) fn cut_in(files: &mut MemFiles, name: &Name, to: u64, keep: u64) -> Result<(), AllocError>
+pub(crate) fn cut_in(
+    files: &mut MemFiles,
+    name: &Name,
+    to: u64,
+    keep: u64,
+) -> Result<(), AllocError>
     requires there { IsThereWith (λ file. keep ≤ length file.now) (files_of files.old name.now) }
     requires to { to ≤ keep }
     ensures ok { OnOk result (Changes (KeptFront to keep) name.now (files_of files.old) (files_of files.new)) }

@@ -1,10 +1,6 @@
 -- Facts on the files of a disk that tells them.
-use Rattle.std.proofs.Common.{◌≡◌, Option, Some, None, refl, subst}
+use Rattle.std.proofs.Common.{◌≡◌, Option, Some, None, refl}
 use Rattle.voy_disk.specs.Files.{Files, Told}
-
--- what is told of the files that the disk tells
-pub told_at : (files : Option Files) (P : Files → Type 0) → Told files P → (fs : Files) → files ≡ Some fs → P fs
-told_at files P told fs is = let Holds : Option Files → Type 0 = λ o. Told o P in subst Holds is told
 
 -- what holds of the files that the disk tells is told
 pub told_from : (files : Option Files) (P : Files → Type 0) → ((fs : Files) → files ≡ Some fs → P fs) → Told files P

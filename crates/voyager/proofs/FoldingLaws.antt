@@ -8,6 +8,7 @@ use Rattle.voy_event.specs.declared.event.Event.{Event}
 use Rattle.voy_event.specs.declared.line_error.LineWhy.{LineWhy}
 use Rattle.voy_event.specs.declared.line_error.LineWhy.TheVariants.{BadValue}
 use Rattle.voy_event.specs.declared.line_error.LineWhy.TheVariants as why
+use Rattle.voy_files.specs.LineLaws.{both_hold, is_false}
 use Rattle.voy_schema.specs.declared.table.Table.{Table}
 use Rattle.voy_schema.specs.declared.value.Value.{Value}
 use Rattle.voyager.specs.DryRun.{line_refusal, refusing, shown}
@@ -20,14 +21,6 @@ use Rattle.voyager.specs.declared.fold.Fold.{Fold}
 
 Lists : Type 0
 Lists = List (List (List Value))
-
-both_hold : (a b : Bool) → (a && b) ≡ true → (a ≡ true) × (b ≡ true)
-both_hold true b h = (refl, h)
-both_hold false b h = cc
-
-not_holds : (b : Bool) → not b ≡ true → b ≡ false
-not_holds true h = cc
-not_holds false h = refl
 
 -- an event that passed its test
 pub chosen : (t : Bool) (e f : Event) → cond {A = Result Event LineWhy} t (Ok e) (Err BadValue) ≡ Ok f → (t ≡ true) × (e ≡ f)
@@ -42,7 +35,7 @@ next_is vsn ended (Ok x) e h =
     let parts : (((x.vsn == vsn) && is_by_source x.role) ≡ true) × (not ended ≡ true) = both_hold _ _ took.0 in
     let first : ((x.vsn == vsn) ≡ true) × (is_by_source x.role ≡ true) = both_hold _ _ parts.0 in
     let same : x.vsn ≡ vsn = grind (arith, nat_tests, first.0) in
-    (ap (λ (y : Event). y.vsn) (sym took.1) ∙ same, not_holds ended parts.1)
+    (ap (λ (y : Event). y.vsn) (sym took.1) ∙ same, is_false ended parts.1)
 
 rest_more : (schema : List Table) (last : ℕ) (e : Event) (events : List Event) (lists : List (List (List Value))) (refused : Option (ℕ × LineWhy))
     → rest_from schema last false (e ∷ events) lists refused ≡ rest_from schema (last + 1) (is_cutover e) events lists refused

@@ -89,11 +89,6 @@ long_line f line rest long =
     stays [] = rw (closing_is_short line long) refl
     stays (next ∷ lines) = refl
 
--- a fact on the files of a disk that tells them
-pub told_at : (files : Option Files) (P : Files → Type 0) → Told files P → (fs : Files) → files ≡ Some fs → P fs
-told_at None P told fs is = cc
-told_at (Some x) P told fs is = let same : x ≡ fs = cc in subst P same told
-
 with_fold_from : (schema : List Table) (queue : Queue) (f : Result (List (List (List Value))) ℕ) → with_fold schema queue f ≡ fold_from schema 0 false queue f
 with_fold_from schema queue (Err vsn) = refl
 with_fold_from schema queue (Ok lists) = rest_of schema queue.events lists queue.refused where

@@ -1,12 +1,12 @@
 -- What stands behind each answer of a command: when it comes, and what was printed.
 use Rattle.std.specs.Prelude.{◌≡◌, ◌⊎◌, ℕ, true, false, List, Option}
 use Rattle.voy_disk.specs.Faults.{Rose}
-use Rattle.voy_disk.specs.Files.{Files}
+use Rattle.voy_disk.specs.Files.{Files, IfTold}
 use Rattle.voy_disk.specs.Written.{GotFront, grown}
 use Rattle.voy_disk.specs.declared.place.Place.{Place}
 use Rattle.voyager.specs.Answer.{status_of, text_on_err}
 use Rattle.voyager.specs.DryRun.{Outcome, refusing}
-use Rattle.voyager.specs.Files.{IfTold, dry_run_outcome}
+use Rattle.voyager.specs.Files.{dry_run_outcome}
 use Rattle.voyager.specs.Stops.{is_refusal}
 use Rattle.voyager.specs.Valid.{IsComplete}
 use Rattle.voyager.specs.Words.{asked_by}

@@ -24,7 +24,3 @@ dry_run_outcome export recording =
     if is_some (export metadata_name)
     then refusing NotBuilt
     else outcome_of (file_bytes (recording schema_name)) (file_bytes (export segment_name))
-
--- a fact on the files of a disk that tells them
-abbrev pub IfTold : Option Files → (Files → Type 0) → Type 0
-IfTold files P = (fs : Files) → files ≡ Some fs → P fs

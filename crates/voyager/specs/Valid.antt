@@ -1,7 +1,7 @@
 -- When the files of a dry run state a valid stream, and what the dry run owes for one.
 use Rattle.std.specs.Prelude.{◌≡◌, ◌⊎◌, ℕ, Bool, false, List, [], ◌∷◌, ◌++◌, Option, Some, None, Ok, option_map}
 use Rattle.std.specs.List.{list_any}
-use Rattle.voy_disk.specs.Files.{Files}
+use Rattle.voy_disk.specs.Files.{Files, IfTold}
 use Rattle.voy_event.specs.declared.event.Event.{Event}
 use Rattle.voy_event.specs.declared.event.What.{What}
 use Rattle.voy_event.specs.declared.event.What.TheVariants as what
@@ -10,7 +10,7 @@ use Rattle.voy_schema.specs.declared.table.Table.{Table}
 use Rattle.voy_tables.specs.Changes.{RowChange, row_change}
 use Rattle.voy_tables.specs.Tables.{IsValid, no_rows}
 use Rattle.voyager.specs.DryRun.{end_answer, outcome_of}
-use Rattle.voyager.specs.Files.{IfTold, file_bytes, metadata_name, schema_name, segment_name}
+use Rattle.voyager.specs.Files.{file_bytes, metadata_name, schema_name, segment_name}
 use Rattle.voyager.specs.Segment.{Queue, event_lines, is_cutover, queue_of}
 use Rattle.voyager.specs.Stops.{is_refusal}
 use Rattle.voyager.specs.declared.answer.Answer.{Answer}

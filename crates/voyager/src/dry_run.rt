@@ -2,7 +2,8 @@ ghost use Rattle.std.specs.Prelude.{◌≡◌, ◌≤◌, [], ℕ, List, Option,
 ghost use Rattle.voy_disk.specs.Faults.{Rose};
 ghost use Rattle.voyager.specs.Answered.{ComesFrom, IsPrinted, StopsDryRun, WithOutcome};
 ghost use Rattle.voyager.specs.DryRun.{outcome_of, outcome_of_lines, refusing};
-ghost use Rattle.voyager.specs.Files.{IfTold, file_bytes, metadata_name, schema_name};
+ghost use Rattle.voy_disk.specs.Files.{IfTold};
+ghost use Rattle.voyager.specs.Files.{file_bytes, metadata_name, schema_name};
 ghost use Rattle.voyager.specs.Folding.{outcome_from};
 ghost use Rattle.voyager.specs.Segment.{event_lines};
 ghost use Rattle.voyager.specs.Stops.{StopsBy};

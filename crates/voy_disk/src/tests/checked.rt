@@ -5,8 +5,6 @@ use crate::sure_disk::SureDisk;
 
 // Calls that first test what the disk asks for, and are `NoMemory` where it does not stand.
 pub(super) trait Checked: Disk {
-    fn bytes(&self, name: &Name) -> Option<&[u8]>;
-
     fn write(&mut self, name: &Name, at: u64, bytes: &[u8]) -> Result<(), DiskError>;
 
     fn cut_to(&mut self, name: &Name, to: u64) -> Result<(), DiskError>;
@@ -17,10 +15,6 @@ pub(super) trait Checked: Disk {
 }
 
 impl Checked for MemDisk {
-    fn bytes(&self, name: &Name) -> Option<&[u8]> {
-        self.file(name)
-    }
-
     fn write(&mut self, name: &Name, at: u64, bytes: &[u8]) -> Result<(), DiskError> {
         match self.file(name) {
             Some(now) if at <= now.len() as u64 => self.write_at(name, at, bytes),
@@ -51,10 +45,6 @@ impl Checked for MemDisk {
 }
 
 impl Checked for SureDisk {
-    fn bytes(&self, name: &Name) -> Option<&[u8]> {
-        self.file(name)
-    }
-
     fn write(&mut self, name: &Name, at: u64, bytes: &[u8]) -> Result<(), DiskError> {
         match self.file(name) {
             Some(now) if at <= now.len() as u64 => self.write_at(name, at, bytes),

@@ -34,16 +34,27 @@ fn work<D: Checked>(disk: &mut D, old: &Name, new: &Name) -> Result<(), DiskErro
 }
 
 #[test]
+fn what_was_written_to_a_sure_disk_reads_back(rt: HostRuntime) -> Result<(), Fail> {
+    let old = name_of(rt.alloc(), "table.batch.tmp")?;
+    let new = name_of(rt.alloc(), "table.batch.1")?;
+    let mut disk = SureDisk::new(rt.alloc());
+    let done = work(&mut disk, &old, &new);
+    assert_eq!(rt; done, Ok(()));
+    let read = disk.file(&new);
+    assert_eq!(rt; read, Some(b"01xy4567ABC".as_slice()));
+    assert_eq!(rt; disk.len(&old), Ok(Some(0)));
+    Ok(())
+}
+
+#[test]
 fn what_was_written_reads_back(rt: HostRuntime) -> Result<(), Fail> {
     let old = name_of(rt.alloc(), "table.batch.tmp")?;
     let new = name_of(rt.alloc(), "table.batch.1")?;
-    let mut sure = SureDisk::new(rt.alloc());
-    assert_eq!(rt; work(&mut sure, &old, &new), Ok(()));
-    assert_eq!(rt; sure.bytes(&new), Some(b"01xy4567ABC".as_slice()));
-    assert_eq!(rt; sure.file(&old), Some(b"".as_slice()));
     let mut disk = dying_disk(rt.alloc(), 0, 0);
-    assert_eq!(rt; work(&mut disk, &old, &new), Ok(()));
-    assert_eq!(rt; disk.file(&new), Some(b"01xy4567ABC".as_slice()));
+    let done = work(&mut disk, &old, &new);
+    assert_eq!(rt; done, Ok(()));
+    let read = disk.file(&new);
+    assert_eq!(rt; read, Some(b"01xy4567ABC".as_slice()));
     assert_eq!(rt; disk.calls(), 9);
     assert_eq!(rt; disk.dead(), false);
     Ok(())
@@ -53,12 +64,24 @@ fn what_was_written_reads_back(rt: HostRuntime) -> Result<(), Fail> {
 fn names_are_listed_in_byte_order(rt: HostRuntime) -> Result<(), Fail> {
     let mut sure = SureDisk::new(rt.alloc());
     let mut disk = dying_disk(rt.alloc(), 0, 0);
-    for text in ["segment.10.ndjson", "meta.journal", "segment.2.ndjson", "Z", "_"] {
+    for text in [
+        "segment.10.ndjson",
+        "meta.journal",
+        "segment.2.ndjson",
+        "Z",
+        "_",
+    ] {
         let name = name_of(rt.alloc(), text)?;
         sure.put_file(&name, b"")?;
         disk.put_file(&name, b"")?;
     }
-    let want = ["Z", "_", "meta.journal", "segment.10.ndjson", "segment.2.ndjson"];
+    let want = [
+        "Z",
+        "_",
+        "meta.journal",
+        "segment.10.ndjson",
+        "segment.2.ndjson",
+    ];
     let names = disk.list()?;
     assert_eq!(rt; names.as_slice().len(), want.len());
     for (name, text) in names.as_slice().iter().zip(want) {
@@ -89,7 +112,11 @@ fn a_failed_write_leaves_some_first_bytes(rt: HostRuntime) -> Result<(), Fail> {
 }
 
 // Whether a renaming, a creation and a cut that fail were done.
-fn try_failed_changes(rt: &(impl Abort + AllocGlobal), leaves: u64, done: bool) -> Result<(), Fail> {
+fn try_failed_changes(
+    rt: &(impl Abort + AllocGlobal),
+    leaves: u64,
+    done: bool,
+) -> Result<(), Fail> {
     let from = name_of(rt.alloc(), "table.batch.tmp")?;
     let to = name_of(rt.alloc(), "table.batch.1")?;
     let mut disk = dying_disk(rt.alloc(), 1, leaves);
@@ -146,17 +173,17 @@ fn before_an_outage(alloc: Global, dead_from: u64) -> Result<MemDisk, Fail> {
 }
 
 // Whether the outage that `choice` picks leaves an image of each file, and how long the touched one is.
-fn try_outage(
-    rt: &(impl Abort + AllocGlobal),
-    dead_from: u64,
-    choice: u64,
-) -> Result<usize, Fail> {
+fn try_outage(rt: &(impl Abort + AllocGlobal), dead_from: u64, choice: u64) -> Result<usize, Fail> {
     let mut disk = before_an_outage(rt.alloc(), dead_from)?;
     assert_eq!(rt; disk.dead(), dead_from > 0);
     disk.crash(choice)?;
     assert_eq!(rt; disk.dead(), false);
     let safe = name_of(rt.alloc(), "meta.journal")?;
-    assert_eq!(rt; disk.file(&safe), Some(b"safe".as_slice()), "after choice {choice}");
+    assert_eq!(rt;
+        disk.file(&safe),
+        Some(b"safe".as_slice()),
+        "after choice {choice}"
+    );
     let tail = name_of(rt.alloc(), "segment.0.ndjson")?;
     let left = disk.file(&tail).ok_or("the file is gone")?;
     assert!(rt; is_image(left), "after choice {choice}");
@@ -175,6 +202,9 @@ fn an_outage_leaves_an_image_of_each_file(rt: HostRuntime) -> Result<(), Fail> {
             *was_left = true;
         }
     }
-    assert_eq!(rt; lengths, [false, false, false, false, true, true, true, true]);
+    assert_eq!(rt;
+        lengths,
+        [false, false, false, false, true, true, true, true]
+    );
     Ok(())
 }

@@ -1,7 +1,6 @@
-use Rattle.std.proofs.Common.{true≢false, ◌≡◌, ◌∙◌, ap, refl, sym, map, true, false, ◌++◌, append-nil}
+use Rattle.std.proofs.Common.{true≢false, ◌≡◌, ◌∙◌, refl, sym, map, true, false, append-nil}
 use Rattle.std.proofs.lemmas.Bool.{false_from_ne_true}
 use Rattle.std.proofs.lemmas.Map.Iter.{rest_all, rest_more}
-use Rattle.std.proofs.lemmas.Option.{none-some}
 use Rattle.std.specs.Map.Iter.{deref}
 use Rattle.std.specs.Prelude.{string_bytes}
 use Rattle.voy_disk.proofs.MemNames.{listed, names_less, names_more}

@@ -1,7 +1,8 @@
 use Rattle.std.proofs.Common.{arith, ◌∙◌, ap, sym, take, vec_len}
 use Rattle.voy_disk.specs.Files.{bytes_now}
 use Rattle.voy_files.proofs.Pieces.{longer_front}
-use Rattle.voy_files.proofs.Told.{told_at, told_from}
+use Rattle.voy_disk.specs.Files.{told_at}
+use Rattle.voy_files.proofs.Told.{told_from}
 use Rattle.voy_files.proofs.whole.read_file.Goals as goal
 
 pub loop-alloc-init : goal.loop-alloc-init

@@ -4,7 +4,7 @@ use Rattle.voy_disk.specs.Files.{Files, bytes_now}
 use Rattle.voyager.specs.DryRun.{outcome_of}
 use Rattle.voyager.specs.Files.{file_bytes, schema_name}
 use Rattle.voyager.proofs.DryRunLaws.{file_there, memory_or_refusal}
-use Rattle.voyager.proofs.SegmentLaws.{told_at}
+use Rattle.voy_disk.specs.Files.{told_at}
 use Rattle.voyager.proofs.dry_run.read_schema.Given.{Over}
 use Rattle.voyager.proofs.dry_run.read_schema.Goals as goal
 

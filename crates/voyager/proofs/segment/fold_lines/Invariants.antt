@@ -1,7 +1,7 @@
 use Rattle.std.proofs.Common.{◌≡◌, ◌+◌, ◌-◌, ◌<◌, ◌≤◌, ◌^◌}
 use Rattle.voy_event.specs.EventLine.{max_event_line_bytes}
 use Rattle.voy_files.specs.Reader.{bytes_left, line_limit}
-use Rattle.voyager.specs.Files.{IfTold}
+use Rattle.voy_disk.specs.Files.{IfTold}
 use Rattle.voyager.specs.Folding.{outcome_from, unread_lines}
 use Rattle.voyager.proofs.segment.fold_lines.Given as goal
 

@@ -6,7 +6,8 @@ use Rattle.voy_schema.specs.declared.schema.Schema.{Schema}
 use Rattle.voyager.specs.DryRun.{outcome_of_lines}
 use Rattle.voyager.specs.Files.{segment_name}
 use Rattle.voyager.specs.Folding.{unread_lines}
-use Rattle.voyager.proofs.SegmentLaws.{begins, file_lines, rose_from, stops_along, told_at}
+use Rattle.voy_disk.specs.Files.{told_at}
+use Rattle.voyager.proofs.SegmentLaws.{begins, file_lines, rose_from, stops_along}
 use Rattle.voyager.proofs.segment.fold_segment.Goals as goal
 
 pub returns-in-Ok-Some-clause-err : goal.returns-in-Ok-Some-clause-err

@@ -1,7 +1,8 @@
 use Rattle.std.proofs.Common.{ℕ, ◌<◌, ap, ◌∙◌, inr, length, refl, subst}
 use Rattle.voyager.specs.Folding.{outcome_from}
 use Rattle.voyager.specs.Segment.{without_closing}
-use Rattle.voyager.proofs.SegmentLaws.{long_line, told_at}
+use Rattle.voy_disk.specs.Files.{told_at}
+use Rattle.voyager.proofs.SegmentLaws.{long_line}
 use Rattle.voyager.proofs.segment.take_next.Goals as goal
 
 pub returns-in-Ok-TooLong-clause-err : goal.returns-in-Ok-TooLong-clause-err

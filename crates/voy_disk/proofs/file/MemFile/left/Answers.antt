@@ -1,6 +1,5 @@
-use Rattle.std.proofs.Common.{refl, ◌/◌}
+use Rattle.std.proofs.Common.{refl}
 use Rattle.std.proofs.lemmas.Result.{IfOk-weaker}
-use Rattle.voy_disk.specs.File.{settled}
 use Rattle.voy_disk.specs.MemFiles.{IsLeftOf, file_of}
 use Rattle.voy_disk.proofs.Crashes.{mixed_left}
 use Rattle.voy_disk.proofs.file.MemFile.left.Goals as goal

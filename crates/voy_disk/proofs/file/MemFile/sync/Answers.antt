@@ -1,4 +1,4 @@
-use Rattle.std.proofs.Common.{◌≡◌, ◌∙◌, ap, arith, length, refl, sym}
+use Rattle.std.proofs.Common.{◌≡◌, ◌∙◌, ap, arith, length, refl}
 use Rattle.voy_disk.proofs.Ranges.{lowest_below, synced_bytes}
 use Rattle.voy_disk.proofs.file.MemFile.sync.Goals as goal
 

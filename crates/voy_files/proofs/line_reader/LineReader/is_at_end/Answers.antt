@@ -2,7 +2,8 @@ use Rattle.std.proofs.Common.{arith, ◌≡◌, ◌+◌, ap, sym, ◌∙◌, ◌
 use Rattle.std.proofs.lemmas.Bool.Decides.{nat_tests}
 use Rattle.voy_disk.specs.Files.{bytes_now}
 use Rattle.voy_files.proofs.Pieces.{some_left, used_up, ends_where, piece_and_rest}
-use Rattle.voy_files.proofs.Told.{told_at, told_from}
+use Rattle.voy_disk.specs.Files.{told_at}
+use Rattle.voy_files.proofs.Told.{told_from}
 use Rattle.voy_files.proofs.line_reader.LineReader.is_at_end.Goals as goal
 
 pub returns-then-self-len-clause-left : goal.returns-then-self-len-clause-left
