@@ -1,2 +1,5 @@
+pub mod Errors
 pub mod Grammar
 pub mod GrammarLaws
+pub mod Journal
+pub mod Reader
