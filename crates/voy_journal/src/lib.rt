@@ -1,14 +1,15 @@
 //! A journal: a file of payloads, one behind the other, that a stop cannot tear.
 #![tactic(auto)]
 
-mod appending;
+//mod appending;
 mod error;
 mod laws;
 mod limits;
 mod opened;
-mod opening;
+//mod opening;
 mod payloads;
 mod reader;
+mod reading;
 mod state;
 
 pub use error::JournalError;

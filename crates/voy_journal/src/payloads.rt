@@ -1,5 +1,6 @@
-ghost use Rattle.std.specs.Prelude.{◌≡◌, map};
+ghost use Rattle.std.specs.Prelude.{◌≡◌, [], ◌∷◌, ◌++◌, map, OnErr, OnOk};
 
+use std::alloc::{AllocError, Global};
 use std::marker::Model;
 
 /// The payloads of a journal, in order. Contracts see them as the list of their bytes.
@@ -17,6 +18,24 @@ impl Model for Payloads {
 }
 
 impl Payloads {
+    /// No payloads, which take no memory.
+    pub fn new(alloc: Global) -> Payloads
+        ensures { result ≡ [] }
+    {
+        Payloads {
+            items: Vec::new(alloc),
+        }
+    }
+
+    /// Puts a payload behind the others. After an error nothing changed.
+    pub fn push(&mut self, payload: Vec<u8>) -> Result<(), AllocError>
+        ensures ok { OnOk result (self.new ≡ self.old ++ payload.items ∷ []) }
+        ensures err { OnErr result (self.new ≡ self.old) }
+    {
+        self.items.push(payload)?;
+        Ok(())
+    }
+
     /// The payloads of a vector, with no memory taken.
     pub fn from_vec(items: Vec<Vec<u8>>) -> Payloads
         ensures { result ≡ map (λ payload. payload.items) items.items }
