@@ -5,3 +5,4 @@ pub mod GrammarLaws
 pub mod Journal
 pub mod Reader
 pub mod Reading
+pub mod Storing

@@ -11,6 +11,7 @@ mod payloads;
 mod reader;
 mod reading;
 mod state;
+mod storing;
 
 pub use error::JournalError;
 pub use laws::one_reading;

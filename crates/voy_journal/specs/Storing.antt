@@ -1,0 +1,14 @@
+-- A write into a file that is safe as it reads.
+use Rattle.std.specs.Prelude.{◌≡◌, ◌≤◌, ℕ, List, Some, length}
+use Rattle.voy_disk.specs.File.{settled, written}
+use Rattle.voy_disk.specs.Files.{Files}
+
+-- the file is safe as it reads, and the place lies in it or at its end
+pub record IsSafeFile (name : List ℕ) (at : ℕ) (files : Files) : Type 0 where
+  pub bytes : List ℕ
+  pub is : files name ≡ Some (settled bytes)
+  pub room : at ≤ length bytes
+
+-- a file that was safe as it read has these bytes at the place, and is safe again
+abbrev pub Rewrites : List ℕ → ℕ → List ℕ → Files → Files → Type 0
+Rewrites name at bytes old new = (safe : List ℕ) → old name ≡ Some (settled safe) → new name ≡ Some (settled (written safe at bytes))
