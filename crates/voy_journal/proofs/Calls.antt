@@ -46,16 +46,18 @@ pub room_there : (files : Option Files) (name : List ℕ) (at : ℕ) → IfTold 
 room_there None name at safe = tt
 room_there (Some fs) name at safe = let file = safe fs refl in rw file.is file.room
 
-file_same : {f g : File} → Some f ≡ Some g → f ≡ g
+pub file_same : {f g : File} → Some f ≡ Some g → f ≡ g
 file_same {f} {g} same = cc
 
 -- a touched range of a file that was safe
 touched_images : (bytes : List ℕ) (at n : ℕ) (f g : File) (now : List ℕ) → f ≡ settled bytes → g ≡ touch f at n now → Follows (SameOutside at n) (IsImage f) (IsImage g)
-touched_images bytes at n f g now was is = record { from = λ image of_g. record {
-  before = bytes;
-  was = rw was (λ place tt. refl);
-  by = changed_within bytes at n now image (subst (λ (file : File). IsImage file image) (is ∙ ap (λ file. touch file at n now) was) of_g);
-} }
+touched_images bytes at n f g now was is = record {
+  from = λ image of_g. record {
+    before = bytes;
+    was = rw was (λ place tt. refl);
+    by = changed_within bytes at n now image (subst (λ (file : File). IsImage file image) (is ∙ ap (λ file. touch file at n now) was) of_g);
+  };
+}
 
 follows_safe : {P : Files → Type 0} {R : Files → Files → Type 0} {step : Image → Image → Type 0} {a b : Option Files} → IfTold a P → Change R a b
     → ((x y : Files) → P x → R x y → Follows step (IsImageOf x) (IsImageOf y)) → Follows step (ImagesOf a) (ImagesOf b)
@@ -65,20 +67,22 @@ follows_safe safe (told {old = x} {new = y} r) law = law x y (safe x refl) r
 -- a file that is safe as it reads is the same in each image
 safe_stays : (x : Files) (name : List ℕ) (at n : ℕ) (bytes : List ℕ) → x name ≡ Some (settled bytes)
     → Follows (StepAt name (SameOutside at n)) (IsImageOf x) (IsImageOf x)
-safe_stays x name at n bytes is = record { from = λ j of_x.
-  let there = image_there (x name) (j name) (settled bytes) is (of_x name) in
-  record {
-    before = j;
-    was = of_x;
-    by = record {
-      before = there.bytes;
-      after = there.bytes;
-      was = there.is;
-      is = there.is;
-      by = λ place outside. refl;
-      others = λ other differs. refl;
-    };
-  } }
+safe_stays x name at n bytes is = record {
+  from = λ j of_x.
+      let there = image_there (x name) (j name) (settled bytes) is (of_x name) in
+      record {
+        before = j;
+        was = of_x;
+        by = record {
+          before = there.bytes;
+          after = there.bytes;
+          was = there.is;
+          is = there.is;
+          by = λ place outside. refl;
+          others = λ other differs. refl;
+        };
+      };
+}
 
 -- whatever a write into a safe file answers, each image has other bytes in its range alone
 pub write_follows : {T : Type 0} (result : Result T DiskError) (name : List ℕ) (at : ℕ) (bytes : List ℕ) (old new : Option Files) → IfTold old (IsSafeFile name at)
@@ -101,5 +105,15 @@ write_and_sync (Ok value) name at bytes a b c wrote synced = change_on wrote syn
     s.is ∙ ap Some (s.step ∙ ap (λ (file : File). settled file.now) (new ∙ w.step) ∙ ap (λ (file : File). settled (written file.now at bytes)) old))
 
 -- images after a further call that leaves none that was not there
-pub then_same : {name : List ℕ} {step : List ℕ → List ℕ → Type 0} {a b c : Image → Type 0} → Follows (StepAt name step) a b → Follows Same b c → Follows (StepAt name step) a c
-then_same {name} {step} first second = follows_on first second (λ i j k s same. subst (λ (image : Image). StepAt name step i image) (sym same) s)
+pub then_same : {step : Image → Image → Type 0} {a b c : Image → Type 0} → Follows step a b → Follows Same b c → Follows step a c
+then_same {step} first second = follows_on first second (λ i j k s same. subst (λ (image : Image). step i image) (sym same) s)
+
+-- the files after a change, from those before
+pub at_old : {R : Files → Files → Type 0} {a b : Option Files} → Change R a b → (x : Files) → a ≡ Some x → (y : Files) × (b ≡ Some y) × R x y
+at_old untold x is = cc
+at_old {R} (told {old} {new} r) x is = (new, refl, let same : old ≡ x = cc in subst (λ (f : Files). R f new) same r)
+
+-- the files before a change, from those after
+pub at_new : {R : Files → Files → Type 0} {a b : Option Files} → Change R a b → (y : Files) → b ≡ Some y → (x : Files) × (a ≡ Some x) × R x y
+at_new untold y is = cc
+at_new {R} (told {old} {new} r) y is = (old, refl, let same : new ≡ y = cc in subst (λ (f : Files). R old f) same r)

@@ -3,6 +3,7 @@ pub mod Errors
 pub mod Grammar
 pub mod GrammarLaws
 pub mod Journal
+pub mod JournalLaws
 pub mod Reader
 pub mod Reading
 pub mod Storing

@@ -1,7 +1,7 @@
--- A write into a file that is safe as it reads.
+-- A file that is safe as it reads, and a write into it.
 use Rattle.std.specs.Prelude.{◌≡◌, ◌≤◌, ℕ, List, Some, length}
 use Rattle.voy_disk.specs.File.{settled, written}
-use Rattle.voy_disk.specs.Files.{Files}
+use Rattle.voy_disk.specs.Files.{Files, bytes_now}
 
 -- the file is safe as it reads, and the place lies in it or at its end
 pub record IsSafeFile (name : List ℕ) (at : ℕ) (files : Files) : Type 0 where
@@ -12,3 +12,7 @@ pub record IsSafeFile (name : List ℕ) (at : ℕ) (files : Files) : Type 0 wher
 -- a file that was safe as it read has these bytes at the place, and is safe again
 abbrev pub Rewrites : List ℕ → ℕ → List ℕ → Files → Files → Type 0
 Rewrites name at bytes old new = (safe : List ℕ) → old name ≡ Some (settled safe) → new name ≡ Some (settled (written safe at bytes))
+
+-- the file is safe with the bytes that it read, none where it was absent
+abbrev pub Settles : List ℕ → Files → Files → Type 0
+Settles name old new = new name ≡ Some (settled (bytes_now (old name)))

@@ -6,7 +6,7 @@ mod error;
 mod laws;
 mod limits;
 mod opened;
-//mod opening;
+mod opening;
 mod payloads;
 mod reader;
 mod reading;

@@ -7,5 +7,8 @@ pub(crate) const PIECE_BYTES: usize = 65536;
 /// The gate byte in front of a payload. Any other closes the journal.
 pub(crate) const OPEN_GATE: u8 = 1;
 
+/// The gate byte behind the last payload.
+pub(crate) const CLOSED_GATE: u8 = 0;
+
 /// How many bytes stand in front of a payload: its gate and its length.
 pub(crate) const HEAD_BYTES: u64 = 5;

@@ -1,0 +1,52 @@
+-- Laws of a journal on a disk.
+use Rattle.std.proofs.Common.{◌≡◌, ◌≢◌, ◌+◌, ◌⊎◌, inl, inr, ℕ, List, [], ◌∷◌, ◌++◌, Option, Some, None, length, take, refl, sym, ap, ◌∙◌, subst, arith}
+use Rattle.std.proofs.lemmas.List.{append-nil, take_at}
+use Rattle.std.specs.Option.{option_map}
+use Rattle.voy_disk.specs.File.{settled}
+use Rattle.voy_disk.specs.FileLaws.{one_image}
+use Rattle.voy_disk.specs.Files.{Files, IfTold, bytes_now}
+use Rattle.voy_disk.specs.ImageLaws.{image_there}
+use Rattle.voy_disk.specs.Images.{Image, ImagesOf}
+use Rattle.voy_journal.specs.Grammar.{Fit, Holds, entries, payloads_of}
+use Rattle.voy_journal.specs.GrammarLaws.{payloads_read}
+use Rattle.voy_journal.specs.Journal.{AddsPayloads, HasJournal, StandsAt, bytes_in, payloads_in}
+
+-- where a journal stands, every image has its payloads
+pub stands_in_every : (files : Option Files) (name : List ℕ) (place : ℕ) (payloads : List (List ℕ)) → IfTold files (StandsAt name place payloads)
+    → HasJournal name payloads (ImagesOf files)
+stands_in_every None name place payloads stands = record { each = λ image is. absurd is }
+stands_in_every (Some fs) name place payloads stands = record { each = λ image is.
+  let at = stands fs refl in
+  let there = image_there (fs name) (image name) (settled at.bytes) at.file (is name) in
+  ap (λ found. payloads_of (bytes_in found)) there.is ∙ ap payloads_of (one_image at.bytes there.bytes there.of_file)
+  ∙ payloads_read payloads at.bytes (inl at.holds) }
+
+-- the bytes in front of its gate are the entries of its payloads
+pub stands_front : (fs : Files) (name : List ℕ) (place : ℕ) (payloads : List (List ℕ)) → StandsAt name place payloads fs
+    → take place (bytes_now (fs name)) ≡ entries payloads
+stands_front fs name place payloads at =
+    ap (λ found. take place (bytes_now found)) at.file ∙ ap (take place) at.holds.split
+    ∙ take_at (entries payloads) (at.holds.gate ∷ at.holds.rest) place at.at
+
+-- entries with a closed gate behind them are the journal of their payloads
+pub closed_entries : (payloads : List (List ℕ)) → Fit payloads → payloads_of (entries payloads ++ 0 ∷ []) ≡ Some payloads
+closed_entries payloads fit = payloads_read payloads (entries payloads ++ 0 ∷ []) (inl (record {
+  gate = 0;
+  rest = [];
+  split = refl;
+  shut = λ same. omega (arith, same);
+  fit = fit;
+}))
+
+-- so these are the payloads that it knows
+pub stands_known : (fs : Files) (name : List ℕ) (place : ℕ) (payloads : List (List ℕ)) → StandsAt name place payloads fs
+    → payloads_of (take place (bytes_now (fs name)) ++ 0 ∷ []) ≡ Some payloads
+stands_known fs name place payloads at =
+    ap (λ front. payloads_of (front ++ 0 ∷ [])) (stands_front fs name place payloads at) ∙ closed_entries payloads at.holds.fit
+
+-- an image with no payload more
+pub adds_nothing : (name : List ℕ) (image : Image) → AddsPayloads name [] image image
+adds_nothing name image = record { payloads = with_nothing (payloads_in name image); others = λ other differs. refl } where
+  with_nothing : (found : Option (List (List ℕ))) → found ≡ option_map (λ payloads. payloads ++ []) found
+  with_nothing None = refl
+  with_nothing (Some payloads) = ap Some (sym (append-nil payloads))
