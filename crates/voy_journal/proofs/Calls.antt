@@ -1,10 +1,11 @@
 -- What calls of a disk leave of one file and of the others.
-use Rattle.std.proofs.Common.{◌≡◌, ◌≢◌, ◌≤◌, ◌+◌, ℕ, List, Option, Some, None, Result, Ok, Err, length, refl, sym, ap, ◌∙◌, subst}
+use Rattle.std.proofs.Common.{◌≡◌, ◌≤◌, ◌+◌, ℕ, List, Option, Some, None, Result, Ok, Err, length, take, drop, inl, ◌++◌, arith, refl, sym, ap, ◌∙◌, subst}
 use Rattle.std.specs.Prelude.{OnOk}
+use Rattle.std.proofs.lemmas.List.{length-take-le, take-take, take_at}
 use Rattle.voy_disk.specs.Calls.{Change, Changes, IsThereWith, Leaves, SameOutside, Smeared, SyncFailed, Synced, Wrote, told, untold}
 use Rattle.voy_disk.specs.File.{File, IsImage, settled, touch, written}
-use Rattle.voy_disk.specs.FileLaws.{changed_within, one_image}
-use Rattle.voy_disk.specs.Files.{Files, IfTold, Told}
+use Rattle.voy_disk.specs.FileLaws.{changed_within, same_front}
+use Rattle.voy_disk.specs.Files.{Files, IfTold, Told, bytes_now}
 use Rattle.voy_disk.specs.ImageLaws.{follows_file, image_there}
 use Rattle.voy_disk.specs.Images.{Image, ImagesOf, IsImageOf, StepAt}
 use Rattle.voy_disk.specs.Steps.{Follows, Same}
@@ -12,7 +13,7 @@ use Rattle.voy_disk.specs.StepLaws.{follows_on}
 use Rattle.voy_disk.specs.declared.disk.DiskError.{DiskError}
 use Rattle.voy_disk.specs.declared.disk.DiskError.TheVariants.{Failed, NoMemory}
 use Rattle.voy_journal.specs.Journal.{KeepsOtherFiles}
-use Rattle.voy_journal.specs.Storing.{IsSafeFile, Rewrites}
+use Rattle.voy_journal.specs.Storing.{IsSafeFile, KeepsFront, Rewrites}
 
 -- one change after another
 pub change_on : {R S T : Files → Files → Type 0} {a b c : Option Files} → Change R a b → Change S b c → ((x y z : Files) → R x y → S y z → T x z) → Change T a c
@@ -103,6 +104,43 @@ write_and_sync (Ok value) name at bytes a b c wrote synced = change_on wrote syn
     let old = file_same (sym w.was ∙ is) in
     let new = file_same (sym s.was ∙ w.is) in
     s.is ∙ ap Some (s.step ∙ ap (λ (file : File). settled file.now) (new ∙ w.step) ∙ ap (λ (file : File). settled (written file.now at bytes)) old))
+
+-- a change of files that are known
+change_if : {R S : Files → Files → Type 0} {a b : Option Files} → Change R a b → ((z y : Files) → Some z ≡ a → R z y → S z y) → Change S a b
+change_if untold weaker = untold
+change_if (told r) weaker = told (weaker _ _ refl r)
+
+-- what reads in front of the place of a write stays
+pub front_written : {T : Type 0} (result : Result T DiskError) (name : List ℕ) (at : ℕ) (bytes : List ℕ) (old new : Option Files) → IfTold old (IsSafeFile name at)
+    → Leaves result (Changes (Wrote at bytes) name) (Changes (Smeared at (length bytes)) name) old new → Change (KeepsFront name at) old new
+front_written (Ok value) name at bytes old new safe change = change_if change (λ x y is r.
+    let file = safe x (sym is) in
+    let before : r.before ≡ settled file.bytes = file_same (sym r.was ∙ file.is) in
+    let room : at ≤ length r.before.now = omega (arith, file.room, ap (λ (f : File). length f.now) before) in
+    ap (λ found. take at (bytes_now found)) r.is ∙ ap (λ (f : File). take at f.now) r.step
+    ∙ take_at (take at r.before.now) (bytes ++ drop (at + length bytes) r.before.now) at (length-take-le at r.before.now room)
+    ∙ ap (λ found. take at (bytes_now found)) (sym r.was))
+front_written (Err Failed) name at bytes old new safe change = change_weaker change (λ x y r.
+    ap (λ found. take at (bytes_now found)) r.is ∙ same_front at r.after.now r.before.now (λ place below. r.step.outside place (inl below))
+    ∙ ap (λ found. take at (bytes_now found)) (sym r.was))
+front_written (Err NoMemory) name at bytes old new safe same = no_change (KeepsFront name at) (λ x. refl) old new same
+
+-- and after a sync all reads as before
+pub reads_on : {T : Type 0} (result : Result T DiskError) (name : List ℕ) (at : ℕ) (old new : Option Files)
+    → Leaves result (Changes Synced name) (Changes SyncFailed name) old new → Change (KeepsFront name at) old new
+reads_on (Ok value) name at old new change = change_weaker change (λ x y r.
+    ap (λ found. take at (bytes_now found)) r.is ∙ ap (λ (file : File). take at file.now) r.step ∙ ap (λ found. take at (bytes_now found)) (sym r.was))
+reads_on (Err Failed) name at old new change = change_weaker change (λ x y r.
+    ap (λ found. take at (bytes_now found)) r.is ∙ ap (take at) r.step.now ∙ ap (λ found. take at (bytes_now found)) (sym r.was))
+reads_on (Err NoMemory) name at old new same = no_change (KeepsFront name at) (λ x. refl) old new same
+
+pub front_on : (name : List ℕ) (at : ℕ) {a b c : Option Files} → Change (KeepsFront name at) a b → Change (KeepsFront name at) b c → Change (KeepsFront name at) a c
+front_on name at first second = change_on first second (λ x y z r s. s ∙ r)
+
+-- less of the front
+pub front_less : (name : List ℕ) (at less : ℕ) {a b : Option Files} → less ≤ at → Change (KeepsFront name at) a b → Change (KeepsFront name less) a b
+front_less name at less fewer keeps = change_weaker keeps (λ x y same.
+    sym (take-take less at (bytes_now (y name)) fewer) ∙ ap (take less) same ∙ take-take less at (bytes_now (x name)) fewer)
 
 -- images after a further call that leaves none that was not there
 pub then_same : {step : Image → Image → Type 0} {a b c : Image → Type 0} → Follows step a b → Follows Same b c → Follows step a c

@@ -1,6 +1,5 @@
 -- What the making and the settling of a journal's file leave.
-use Rattle.std.proofs.Common.{◌≡◌, ◌≢◌, ◌≤◌, ◌<◌, ◌+◌, ◌⊎◌, inl, inr, ℕ, zero, suc, List, [], ◌∷◌, ◌++◌, Option, Some, None, Result, Ok, Err, length, refl, sym, ap, ◌∙◌, arith, subst}
-use Rattle.std.specs.Prelude.{slice_get}
+use Rattle.std.proofs.Common.{◌≡◌, ◌≤◌, ◌⊎◌, inl, inr, ℕ, List, [], ◌∷◌, Option, Some, None, Result, Ok, Err, length, refl, sym, ap, ◌∙◌, arith}
 use Rattle.std.proofs.lemmas.Option.{none-some}
 use Rattle.voy_disk.specs.Calls.{Change, Changes, Created, DoneOrNot, Leaves, SameOutside, Synced, or_empty}
 use Rattle.voy_disk.specs.File.{File, settled}
@@ -8,7 +7,7 @@ use Rattle.voy_disk.specs.FileLaws.{one_image}
 use Rattle.voy_disk.specs.Files.{Files, IfTold, bytes_now}
 use Rattle.voy_disk.specs.ImageLaws.{create_follows, image_there}
 use Rattle.voy_disk.specs.Images.{Image, ImagesOf, Makes, StepAt}
-use Rattle.voy_disk.specs.Steps.{Follows, From, Same}
+use Rattle.voy_disk.specs.Steps.{Follows, Same}
 use Rattle.voy_disk.specs.StepLaws.{follows_weaker}
 use Rattle.voy_disk.specs.declared.disk.DiskError.{DiskError}
 use Rattle.voy_disk.specs.declared.disk.DiskError.TheVariants.{Failed, NoMemory}
@@ -16,7 +15,7 @@ use Rattle.voy_journal.specs.Grammar.{payloads_of}
 use Rattle.voy_journal.specs.GrammarLaws.{payloads_read}
 use Rattle.voy_journal.specs.Journal.{KeepsOtherFiles, KeepsPayloads, StandsAt, bytes_in, payloads_in}
 use Rattle.voy_journal.specs.Storing.{Rewrites, Settles}
-use Rattle.voy_journal.proofs.Calls.{at_new, at_old, change_on, change_weaker, file_same, no_change}
+use Rattle.voy_journal.proofs.Calls.{at_new, change_on, change_weaker, file_same, no_change}
 
 -- an empty file that was made has no payload, as the absent one
 keeps_making : (name : List ℕ) (i j : Image) → Same i j ⊎ Makes name i j → KeepsPayloads name i j
@@ -79,21 +78,23 @@ no_payloads name image bytes is few = ap (λ found. payloads_of (bytes_in found)
 pub remade : (name : List ℕ) (end : ℕ) (a b c : Option Files) → Follows (KeepsPayloads name) (ImagesOf a) (ImagesOf b) → IfTold b (IsSettledTo name end) → end ≤ 1
     → Follows (StepAt name (SameOutside 0 1)) (ImagesOf b) (ImagesOf c) → Follows (KeepsPayloads name) (ImagesOf a) (ImagesOf c)
 remade name end a None c kept small few wrote = record { from = λ k is. absurd (wrote.from k is).was }
-remade name end a (Some fs) c kept small few wrote = record { from = λ k is.
-  let y = wrote.from k is in
-  let x = kept.from y.before y.was in
-  let file = small fs refl in
-  let there = image_there (fs name) (y.before name) (settled file.bytes) file.is (y.was name) in
-  let size : length y.by.before ≤ 1 = omega (arith, ap length (one_image file.bytes there.bytes there.of_file), ap length (same_bytes y.by.before there.bytes (sym y.by.was ∙ there.is)), file.size) in
-  record {
-    before = x.before;
-    was = x.was;
-    by = record {
-      payloads = no_payloads name k y.by.after y.by.is (few_bytes y.by.before y.by.after y.by.by size)
-          ∙ sym (no_payloads name y.before y.by.before y.by.was size) ∙ x.by.payloads;
-      others = λ other differs. y.by.others other differs ∙ x.by.others other differs;
-    };
-  } } where
+remade name end a (Some fs) c kept small few wrote = record {
+  from = λ k is.
+      let y = wrote.from k is in
+      let x = kept.from y.before y.was in
+      let file = small fs refl in
+      let there = image_there (fs name) (y.before name) (settled file.bytes) file.is (y.was name) in
+      let size : length y.by.before ≤ 1 = omega (arith, ap length (one_image file.bytes there.bytes there.of_file), ap length (same_bytes y.by.before there.bytes (sym y.by.was ∙ there.is)), file.size) in
+      record {
+        before = x.before;
+        was = x.was;
+        by = record {
+          payloads = no_payloads name k y.by.after y.by.is (few_bytes y.by.before y.by.after y.by.by size)
+              ∙ sym (no_payloads name y.before y.by.before y.by.was size) ∙ x.by.payloads;
+          others = λ other differs. y.by.others other differs ∙ x.by.others other differs;
+        };
+      };
+} where
   same_bytes : (p q : List ℕ) → Some p ≡ Some q → p ≡ q
   same_bytes p q same = cc
 

@@ -1,9 +1,9 @@
 -- Laws of entries with one payload more.
-use Rattle.std.specs.Prelude.{◌≡◌, ◌≢◌, ◌≤◌, ◌+◌, ℕ, List, [], ◌∷◌, ◌++◌, length}
-use Rattle.std.proofs.Common.{refl, sym, ap, ◌∙◌, arith, length-append}
+use Rattle.std.specs.Prelude.{◌≡◌, ◌≤◌, ◌+◌, ℕ, List, [], ◌∷◌, ◌++◌, length}
+use Rattle.std.proofs.Common.{sym, ap, ◌∙◌, arith, length-append}
 use Rattle.std.specs.Int.{w32, to_be_bytes}
 use Rattle.voy_journal.specs.declared.limits.TheConstants.{MAX_PAYLOAD_BYTES}
-use Rattle.voy_journal.specs.Grammar.{Fit, Holds, entries}
+use Rattle.voy_journal.specs.Grammar.{Fit, entries}
 use Rattle.voy_journal.specs.GrammarLaws.{behind_first}
 
 -- the entry of the last payload stands behind the others

@@ -32,10 +32,14 @@ pub record StandsAt (name : List ℕ) (place : ℕ) (payloads : List (List ℕ))
 abbrev pub StandsOn : Journal → Option Files → Type 0
 StandsOn journal files = IfTold files (λ fs. (payloads : List (List ℕ)) × StandsAt journal.name journal.gate payloads fs)
 
--- the payloads in front of the gate that the journal knows, as the file reads now
+-- the payloads in front of a place of the file of this name, as it reads now
+abbrev pub payloads_before : List ℕ → ℕ → Option Files → Option (List (List ℕ))
+payloads_before name place None = None
+payloads_before name place (Some files) = payloads_of (take place (bytes_now (files name)) ++ 0 ∷ [])
+
+-- the payloads that a journal knows of: those in front of its gate
 abbrev pub known_payloads : Journal → Option Files → Option (List (List ℕ))
-known_payloads journal None = None
-known_payloads journal (Some files) = payloads_of (take journal.gate (bytes_now (files journal.name)) ++ 0 ∷ [])
+known_payloads journal files = payloads_before journal.name journal.gate files
 
 -- the bytes of a file in an image; an absent file has none
 abbrev pub bytes_in : Option (List ℕ) → List ℕ

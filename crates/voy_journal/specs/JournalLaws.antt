@@ -1,5 +1,5 @@
 -- Laws of a journal on a disk.
-use Rattle.std.proofs.Common.{◌≡◌, ◌≢◌, ◌+◌, ◌⊎◌, inl, inr, ℕ, List, [], ◌∷◌, ◌++◌, Option, Some, None, length, take, refl, sym, ap, ◌∙◌, subst, arith}
+use Rattle.std.proofs.Common.{◌≡◌, inl, ℕ, List, [], ◌∷◌, ◌++◌, Option, Some, None, take, refl, sym, ap, ◌∙◌, arith}
 use Rattle.std.proofs.lemmas.List.{append-nil, take_at}
 use Rattle.std.specs.Option.{option_map}
 use Rattle.voy_disk.specs.File.{settled}
@@ -7,7 +7,7 @@ use Rattle.voy_disk.specs.FileLaws.{one_image}
 use Rattle.voy_disk.specs.Files.{Files, IfTold, bytes_now}
 use Rattle.voy_disk.specs.ImageLaws.{image_there}
 use Rattle.voy_disk.specs.Images.{Image, ImagesOf}
-use Rattle.voy_journal.specs.Grammar.{Fit, Holds, entries, payloads_of}
+use Rattle.voy_journal.specs.Grammar.{Fit, entries, payloads_of}
 use Rattle.voy_journal.specs.GrammarLaws.{payloads_read}
 use Rattle.voy_journal.specs.Journal.{AddsPayloads, HasJournal, StandsAt, bytes_in, payloads_in}
 
@@ -15,11 +15,13 @@ use Rattle.voy_journal.specs.Journal.{AddsPayloads, HasJournal, StandsAt, bytes_
 pub stands_in_every : (files : Option Files) (name : List ℕ) (place : ℕ) (payloads : List (List ℕ)) → IfTold files (StandsAt name place payloads)
     → HasJournal name payloads (ImagesOf files)
 stands_in_every None name place payloads stands = record { each = λ image is. absurd is }
-stands_in_every (Some fs) name place payloads stands = record { each = λ image is.
-  let at = stands fs refl in
-  let there = image_there (fs name) (image name) (settled at.bytes) at.file (is name) in
-  ap (λ found. payloads_of (bytes_in found)) there.is ∙ ap payloads_of (one_image at.bytes there.bytes there.of_file)
-  ∙ payloads_read payloads at.bytes (inl at.holds) }
+stands_in_every (Some fs) name place payloads stands = record {
+  each = λ image is.
+      let at = stands fs refl in
+      let there = image_there (fs name) (image name) (settled at.bytes) at.file (is name) in
+      ap (λ found. payloads_of (bytes_in found)) there.is ∙ ap payloads_of (one_image at.bytes there.bytes there.of_file)
+      ∙ payloads_read payloads at.bytes (inl at.holds);
+}
 
 -- the bytes in front of its gate are the entries of its payloads
 pub stands_front : (fs : Files) (name : List ℕ) (place : ℕ) (payloads : List (List ℕ)) → StandsAt name place payloads fs

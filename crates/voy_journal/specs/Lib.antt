@@ -1,4 +1,5 @@
 pub mod Appending
+pub mod Blocks
 pub mod Errors
 pub mod Grammar
 pub mod GrammarLaws

@@ -1,5 +1,5 @@
 -- A file that is safe as it reads, and a write into it.
-use Rattle.std.specs.Prelude.{◌≡◌, ◌≤◌, ℕ, List, Some, length}
+use Rattle.std.specs.Prelude.{◌≡◌, ◌≤◌, ℕ, List, Some, length, take}
 use Rattle.voy_disk.specs.File.{settled, written}
 use Rattle.voy_disk.specs.Files.{Files, bytes_now}
 
@@ -16,3 +16,7 @@ Rewrites name at bytes old new = (safe : List ℕ) → old name ≡ Some (settle
 -- the file is safe with the bytes that it read, none where it was absent
 abbrev pub Settles : List ℕ → Files → Files → Type 0
 Settles name old new = new name ≡ Some (settled (bytes_now (old name)))
+
+-- the bytes in front of the place read as before
+abbrev pub KeepsFront : List ℕ → ℕ → Files → Files → Type 0
+KeepsFront name at old new = take at (bytes_now (new name)) ≡ take at (bytes_now (old name))

@@ -1,7 +1,7 @@
 //! A journal: a file of payloads, one behind the other, that a stop cannot tear.
 #![tactic(auto)]
 
-//mod appending;
+mod appending;
 mod error;
 mod laws;
 mod limits;

@@ -1,4 +1,4 @@
-use Rattle.std.proofs.Common.{◌≡◌, ◌<◌, ◌+◌, ◌≤◌, ◌++◌, length}
+use Rattle.std.proofs.Common.{◌≡◌, ◌<◌, ◌+◌, ◌≤◌, length}
 use Rattle.voy_journal.specs.Reader.{OfBytes, bytes_left, unread}
 use Rattle.voy_journal.proofs.Progress.{HasRead}
 use Rattle.voy_journal.proofs.reading.read_payloads.Given as goal
