@@ -7,15 +7,11 @@ use Rattle.voy_disk.specs.Files.{Files, IfTold}
 use Rattle.voy_disk.specs.Images.{ImagesOf, SameBut}
 use Rattle.voy_disk.specs.Steps.{Follows, LeavesPrefix}
 use Rattle.voy_journal.specs.Blocks.{Appends, AppendsOrNot, IsBlock}
-use Rattle.voy_journal.specs.Journal.{AddsPayloads, KeepsOtherFiles, StandsAt, payloads_before, payloads_in}
+use Rattle.voy_journal.specs.Journal.{AddsPayloads, KeepsOtherFiles, Stands, StandsAt, payloads_before, payloads_in}
 use Rattle.voy_journal.specs.JournalLaws.{stands_in_every, stands_known}
 use Rattle.voy_journal.proofs.Calls.{at_new}
 
--- the journal stands on these files with some payloads
-abbrev pub Stands : List ℕ → ℕ → Files → Type 0
-Stands name gate files = (payloads : List (List ℕ)) × StandsAt name gate payloads files
-
--- with those of the files that are told
+-- the payloads of the files that are told
 known_files : (name : List ℕ) (gate : ℕ) (fs : Files) (payloads : List (List ℕ)) → StandsAt name gate payloads fs → IfTold (Some fs) (StandsAt name gate payloads)
 known_files name gate fs payloads at x is = let same : fs ≡ x = cc in subst (λ (files : Files). StandsAt name gate payloads files) same at
 

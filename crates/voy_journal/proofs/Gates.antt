@@ -14,7 +14,7 @@ use Rattle.voy_journal.specs.Appending.{entries_push, entries_push_length, fit_p
 use Rattle.voy_journal.specs.Blocks.{HasEither, IsBlock}
 use Rattle.voy_journal.specs.Grammar.{Fit, Holds, entries, payloads_of}
 use Rattle.voy_journal.specs.GrammarLaws.{payloads_read}
-use Rattle.voy_journal.specs.Journal.{StandsAt, bytes_in, payloads_in}
+use Rattle.voy_journal.specs.Journal.{Stands, StandsAt, bytes_in, payloads_in}
 use Rattle.voy_journal.specs.Storing.{IsSafeFile, Rewrites}
 use Rattle.voy_journal.proofs.Calls.{at_new}
 
@@ -142,7 +142,7 @@ staged name gate payloads block a b stands rewrites y is =
     staged_at name gate payloads block old.0 y (stands old.0 old.1) old.2
 
 -- so the gate can be written
-pub gate_there : (name : List ℕ) (gate : ℕ) (block : List ℕ) (a b : Option Files) → IfTold a (λ fs. (payloads : List (List ℕ)) × StandsAt name gate payloads fs)
+pub gate_there : (name : List ℕ) (gate : ℕ) (block : List ℕ) (a b : Option Files) → IfTold a (Stands name gate)
     → Change (Rewrites name (gate + 1) block) a b → IfTold b (IsSafeFile name gate)
 gate_there name gate block a b stands rewrites y is =
     let old = at_new rewrites y is in
@@ -152,16 +152,6 @@ gate_there name gate block a b stands rewrites y is =
       bytes = file.bytes;
       is = file.file;
       room = omega (arith, ap length file.has.split, length-append (entries at.0) (file.has.gate ∷ (block ++ file.has.rest)), file.at);
-    }
-
--- and the block behind it
-pub block_there : (name : List ℕ) (gate : ℕ) (a : Option Files) → IfTold a (λ fs. (payloads : List (List ℕ)) × StandsAt name gate payloads fs) → IfTold a (IsSafeFile name (gate + 1))
-block_there name gate a stands x is =
-    let at = stands x is in
-    record {
-      bytes = at.1.bytes;
-      is = at.1.file;
-      room = omega (arith, ap length at.1.holds.split, length-append (entries at.0) (at.1.holds.gate ∷ at.1.holds.rest), at.1.at);
     }
 
 -- after the second write each image has the payloads that stood, or one more

@@ -12,10 +12,6 @@ use Rattle.voy_journal.specs.declared.state.Journal.{Journal}
 abbrev pub journal_name : Journal → List ℕ
 journal_name journal = journal.name
 
--- the place of its closed gate
-abbrev pub journal_gate : Journal → ℕ
-journal_gate journal = journal.gate
-
 -- it may be appended to
 abbrev pub is_live : Journal → Bool
 is_live journal = journal.live
@@ -27,10 +23,14 @@ pub record StandsAt (name : List ℕ) (place : ℕ) (payloads : List (List ℕ))
   pub holds : Holds payloads bytes
   pub at : length (entries payloads) ≡ place
 
+-- the same with some payloads
+abbrev pub Stands : List ℕ → ℕ → Files → Type 0
+Stands name place files = (payloads : List (List ℕ)) × StandsAt name place payloads files
+
 -- what a journal asks of the disk that it is lent, where told: that its file still is as its last call
 -- left it, all safe, with the closed gate at the place that the journal knows
 abbrev pub StandsOn : Journal → Option Files → Type 0
-StandsOn journal files = IfTold files (λ fs. (payloads : List (List ℕ)) × StandsAt journal.name journal.gate payloads fs)
+StandsOn journal files = IfTold files (Stands journal.name journal.gate)
 
 -- the payloads in front of a place of the file of this name, as it reads now
 abbrev pub payloads_before : List ℕ → ℕ → Option Files → Option (List (List ℕ))

@@ -1,15 +1,18 @@
 -- Laws of a journal on a disk.
 use Rattle.std.proofs.Common.{◌≡◌, inl, ℕ, List, [], ◌∷◌, ◌++◌, Option, Some, None, take, refl, sym, ap, ◌∙◌, arith}
-use Rattle.std.proofs.lemmas.List.{append-nil, take_at}
+use Rattle.std.proofs.lemmas.List.{take_at}
 use Rattle.std.specs.Option.{option_map}
+use Rattle.voy_disk.specs.Calls.{Change, told, untold}
 use Rattle.voy_disk.specs.File.{settled}
 use Rattle.voy_disk.specs.FileLaws.{one_image}
 use Rattle.voy_disk.specs.Files.{Files, IfTold, bytes_now}
 use Rattle.voy_disk.specs.ImageLaws.{image_there}
 use Rattle.voy_disk.specs.Images.{Image, ImagesOf}
+use Rattle.voy_disk.specs.Steps.{Follows}
+use Rattle.voy_disk.specs.StepLaws.{every_along}
 use Rattle.voy_journal.specs.Grammar.{Fit, entries, payloads_of}
 use Rattle.voy_journal.specs.GrammarLaws.{payloads_read}
-use Rattle.voy_journal.specs.Journal.{AddsPayloads, HasJournal, StandsAt, bytes_in, payloads_in}
+use Rattle.voy_journal.specs.Journal.{AddsPayloads, HasJournal, KeepsPayloads, Stands, StandsAt, bytes_in}
 
 -- where a journal stands, every image has its payloads
 pub stands_in_every : (files : Option Files) (name : List ℕ) (place : ℕ) (payloads : List (List ℕ)) → IfTold files (StandsAt name place payloads)
@@ -46,9 +49,28 @@ pub stands_known : (fs : Files) (name : List ℕ) (place : ℕ) (payloads : List
 stands_known fs name place payloads at =
     ap (λ front. payloads_of (front ++ 0 ∷ [])) (stands_front fs name place payloads at) ∙ closed_entries payloads at.holds.fit
 
--- an image with no payload more
-pub adds_nothing : (name : List ℕ) (image : Image) → AddsPayloads name [] image image
-adds_nothing name image = record { payloads = with_nothing (payloads_in name image); others = λ other differs. refl } where
-  with_nothing : (found : Option (List (List ℕ))) → found ≡ option_map (λ payloads. payloads ++ []) found
-  with_nothing None = refl
-  with_nothing (Some payloads) = ap Some (sym (append-nil payloads))
+-- a journal still stands where other files changed
+pub stands_beside : {R : Files → Files → Type 0} {old new : Option Files} (name : List ℕ) (place : ℕ) → Change R old new → ((x y : Files) → R x y → y name ≡ x name)
+    → IfTold old (Stands name place) → IfTold new (Stands name place)
+stands_beside name place untold same stands y is = cc
+stands_beside name place (told {old = x} {new = z} r) same stands y is =
+    let at = stands x refl in
+    let here : z ≡ y = cc in (
+      at.0,
+      record {
+        bytes = at.1.bytes;
+        file = ap (λ (files : Files). files name) (sym here) ∙ same x z r ∙ at.1.file;
+        holds = at.1.holds;
+        at = at.1.at;
+      },
+    )
+
+-- what a journal has in every image it still has where each image keeps its payloads
+pub has_still : (name : List ℕ) (payloads : List (List ℕ)) (old new : Image → Type 0) → HasJournal name payloads old → Follows (KeepsPayloads name) old new → HasJournal name payloads new
+has_still name payloads old new has kept = every_along has kept (λ i j before step. step.payloads ∙ before)
+
+-- and it has more where each image has more
+pub has_more : (name : List ℕ) (payloads added : List (List ℕ)) (old new : Image → Type 0) → HasJournal name payloads old → Follows (AddsPayloads name added) old new
+    → HasJournal name (payloads ++ added) new
+has_more name payloads added old new has more =
+    every_along has more (λ i j before step. step.payloads ∙ ap (option_map (λ (found : List (List ℕ)). found ++ added)) before)

@@ -5,7 +5,7 @@ ghost use Rattle.voy_disk.specs.Faults.{HasCause};
 ghost use Rattle.voy_disk.specs.Files.{IfTold};
 ghost use Rattle.voy_disk.specs.Images.{ImagesOf, SameBut};
 ghost use Rattle.voy_disk.specs.Steps.{DoesAll, Follows, LeavesPrefix, StaysTold};
-ghost use Rattle.voy_journal.specs.Journal.{AddsPayloads, KeepsOtherFiles, StandsAt, StandsOn, is_live, journal_name, known_payloads};
+ghost use Rattle.voy_journal.specs.Journal.{AddsPayloads, KeepsOtherFiles, Stands, StandsOn, is_live, journal_name, known_payloads};
 ghost use Rattle.voy_journal.specs.Blocks.{Appends, AppendsOrNot, IsBlock};
 ghost use Rattle.voy_journal.specs.Storing.{KeepsFront};
 
@@ -71,7 +71,7 @@ impl Journal {
 // opened.
 fn put_behind<D: Disk>(disk: &mut D, name: &Name, gate: u64, block: &[u8]) -> Result<(), DiskError>
     requires low { gate + 1 < 2 ^ 63 }
-    requires stands { IfTold (D.files disk.old) (λ fs. (payloads : _) × StandsAt name.now gate payloads fs) }
+    requires stands { IfTold (D.files disk.old) (Stands name.now gate) }
     requires some { 0 < length block.now }
     ensures either { AppendsOrNot name.now gate block.now (D.files disk.old) (ImagesOf (D.files disk.new)) }
     ensures appends { OnOk result (Appends name.now gate block.now (D.files disk.old) (D.files disk.new)) }
