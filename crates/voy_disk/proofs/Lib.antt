@@ -1,2 +1,7 @@
+mod Crashes
 mod Growing
+mod Leaving
+mod MemNames
+mod Ranges
+mod Untold
 mod Updates

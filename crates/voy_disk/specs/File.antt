@@ -1,5 +1,5 @@
 -- One file of a disk: what reads now, and what a stop may leave of it.
-use Rattle.std.specs.Prelude.{◌≡◌, ◌≤◌, ◌+◌, ◌<◌, ◌⊎◌, ℕ, List, [], ◌∷◌, slice_get}
+use Rattle.std.specs.Prelude.{◌≡◌, ◌≤◌, ◌+◌, ◌<◌, ◌⊎◌, ℕ, List, [], ◌∷◌, ◌++◌, length, take, drop, slice_get}
 
 -- the bytes that read now, the bytes that are safe, and the ranges touched since the last sync,
 -- oldest first, each as its start and its length
@@ -25,3 +25,11 @@ IsImage file image = (place : ℕ) → Untouched file.touched place → slice_ge
 -- a file all of whose bytes are safe
 abbrev pub settled : List ℕ → File
 settled bytes = record { now = bytes; safe = bytes; touched = [] }
+
+-- bytes in place of those that stand at a place and behind it, as far as they reach
+abbrev pub written : List ℕ → ℕ → List ℕ → List ℕ
+written old at bytes = take at old ++ (bytes ++ drop (at + length bytes) old)
+
+-- the file with one touched range more, of n bytes from at, that now reads these bytes
+abbrev pub touch : File → ℕ → ℕ → List ℕ → File
+touch file at n now = record { now = now; safe = file.safe; touched = file.touched ++ ((at, n) ∷ []) }

@@ -1,5 +1,6 @@
 -- The files of a disk, and what a call reads of one.
 use Rattle.std.specs.Prelude.{◌≡◌, ◌≢◌, ◌≤◌, ◌<◌, ◌^◌, ◌⊎◌, ℕ, List, [], ◌++◌, length, take, drop, Option, Some, None, IfSome}
+use Rattle.std.proofs.Common.{subst}
 use Rattle.voy_disk.specs.File.{File, IsImage, settled}
 
 -- the file of each name, if there is one
@@ -10,6 +11,14 @@ Files = List ℕ → Option File
 abbrev pub Told : Option Files → (Files → Type 0) → Type 0
 Told None P = Unit {0}
 Told (Some files) P = P files
+
+-- the same as an implication, which proofs find more easily
+abbrev pub IfTold : Option Files → (Files → Type 0) → Type 0
+IfTold files P = (fs : Files) → files ≡ Some fs → P fs
+
+-- what is told of the files holds of them
+pub told_at : (files : Option Files) (P : Files → Type 0) → Told files P → IfTold files P
+told_at files P holds fs is = subst (λ told. Told told P) is holds
 
 -- the length of a file, if it is there
 abbrev pub length_of : Option File → Option ℕ

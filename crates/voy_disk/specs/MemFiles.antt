@@ -1,11 +1,14 @@
 -- The files of a disk in memory.
-use Rattle.std.specs.Prelude.{◌<◌, ◌^◌, ℕ, List, String, Option, Some, None, IfSome, length}
+use Rattle.std.specs.Prelude.{◌≡◌, ◌<◌, ◌-◌, ◌^◌, ℕ, take, List, String, Option, Some, None, Result, Ok, Err, IfSome, length}
 use Rattle.std.proofs.Common.{arith}
 use Rattle.std.specs.BTreeMap.{BTreeMap, get_by_text}
 use Rattle.std.specs.Option.{option_map}
 use denote.Ref.{Bor}
 use Rattle.voy_disk.specs.declared.file.MemFile.{MemFile}
-use Rattle.voy_disk.specs.File.{File, IsImage}
+use Rattle.std.specs.declared.alloc.AllocError.{AllocError}
+use Rattle.voy_disk.specs.declared.disk.DiskError.{DiskError}
+use Rattle.voy_disk.specs.declared.disk.DiskError.TheVariants.{NoMemory}
+use Rattle.voy_disk.specs.File.{File, IsImage, settled, touch, written}
 use Rattle.voy_disk.specs.Files.{Files, ReadsImages, AreShort}
 
 -- the bytes that a lent slice shows, if one is lent
@@ -15,6 +18,25 @@ shown bytes = option_map (λ slice. slice.now) bytes
 -- what a file in memory reads now, its safe bytes and its touched ranges
 abbrev pub file_of : MemFile → File
 file_of file = record { now = file.bytes.items; safe = file.safe.items; touched = file.touched.items }
+
+-- bytes were written at a place, and n bytes from it were touched
+abbrev pub Overwrote : ℕ → List ℕ → ℕ → File → File → Type 0
+Overwrote at bytes n old new = new ≡ touch old at n (written old.now at bytes)
+
+-- the first bytes were kept, and all from a place on were touched
+abbrev pub KeptFront : ℕ → ℕ → File → File → Type 0
+KeptFront to keep old new = new ≡ touch old to (length old.now - to) (take keep old.now)
+
+-- the file has the bytes of an image of another, all safe
+pub record IsLeftOf (file : File) (left : MemFile) : Type 0 where
+  pub image : List ℕ
+  pub is_image : IsImage file image
+  pub is : file_of left ≡ settled image
+
+-- what a call answers that was begun so and then changed the files, or had no memory for it
+abbrev pub answer_of : Result (Unit {0}) DiskError → Result (Unit {0}) AllocError → Result (Unit {0}) DiskError
+answer_of begun (Ok done) = begun
+answer_of begun (Err refused) = Err NoMemory
 
 -- what was found reads one of its images
 found_reads_an_image : (found : Option MemFile) → IfSome (option_map file_of found) (λ file. IsImage file file.now)

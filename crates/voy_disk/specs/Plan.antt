@@ -3,7 +3,10 @@ use Rattle.std.specs.Prelude.{ℕ, Bool, ◌==◌, ◌&&◌, ◌||◌, nat_le, n
 use Rattle.std.specs.List.{list_any}
 use Rattle.voy_disk.specs.declared.plan.FaultPlan.{FaultPlan}
 
--- a call fails where the plan lists its number, or has a number from which all calls fail and this
--- one has come to it
+-- the plan has a number from which all calls fail, and this call has come to it
+abbrev pub is_dead_at : FaultPlan → ℕ → Bool
+is_dead_at plan call = nat_lt 0 plan.dead_from && nat_le plan.dead_from call
+
+-- a call fails where the plan lists its number, or the disk is dead by then
 abbrev pub has_planned : FaultPlan → ℕ → Bool
-has_planned plan call = list_any (λ n. n == call) plan.fail || (nat_lt 0 plan.dead_from && nat_le plan.dead_from call)
+has_planned plan call = list_any (λ n. n == call) plan.fail || is_dead_at plan call

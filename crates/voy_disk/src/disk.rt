@@ -1,9 +1,11 @@
 ghost use base.Fml.{GName};
-ghost use Rattle.std.specs.Prelude.{◌≡◌, ◌≤◌, ◌<◌, ◌^◌, ◌↔◌, ℕ, List, ◌∷◌, Option, length, IfOk, IfSome};
+ghost use Rattle.std.specs.Prelude.{◌≡◌, ◌≤◌, ◌<◌, ◌+◌, ◌^◌, ◌↔◌, ℕ, List, ◌∷◌, Option, None, length, IfOk, IfSome, OnOk};
+ghost use Rattle.voy_disk.specs.Calls.{Changes, Created, CutFailed, DoneOrNot, IsThereWith, Leaves, Lists, Renamed, Smeared, SyncFailed, Synced, WasCut, Wrote};
 ghost use Rattle.voy_disk.specs.Faults.{HasCause};
 ghost use Rattle.voy_disk.specs.Files.{Files, Told, length_of, bytes_now, Reads, NothingToRead, ReadsImages, AreShort};
 
 use crate::name::Name;
+use crate::names::Names;
 
 /// Why a call of a disk did not do its work.
 #[derive(Debug, Clone, Copy, PartialEq, Eq)]
@@ -28,6 +30,13 @@ pub trait Disk {
     /// Through which references the disk is lent, the outermost first; none for a disk that is owned.
     ghost lender: { Self → List GName };
 
+    /// The names of all files, in byte order. No file changes.
+    fn list(&mut self) -> Result<Names, DiskError>
+        ensures names { IfOk result (λ names. Told (files self.old) (λ fs. Lists fs names)) }
+        ensures same { files self.new ≡ files self.old }
+        ensures cause { HasCause DiskError.Failed (faults self.old) (faults self.new) result }
+        ensures lender { lender self.new ≡ lender self.old };
+
     /// The length in bytes of the file, or `None` where there is no such file. No file changes.
     fn len(&mut self, name: &Name) -> Result<Option<u64>, DiskError>
         ensures length { IfOk result (λ n. Told (files self.old) (λ fs. n ≡ length_of (fs name.now))) }
@@ -48,6 +57,49 @@ pub trait Disk {
         ensures cause { HasCause DiskError.Failed (faults self.old) (faults self.new) result }
         ensures lender { lender self.new ≡ lender self.old };
 
+    /// Makes an empty file where the name is free; a file that is there stays. After Ok the name is
+    /// safe. After `Failed` the file was made, or was not.
+    fn create(&mut self, name: &Name) -> Result<(), DiskError>
+        ensures created { Leaves result (Created name.now) (DoneOrNot (Created name.now)) (files self.old) (files self.new) }
+        ensures cause { HasCause DiskError.Failed (faults self.old) (faults self.new) result }
+        ensures lender { lender self.new ≡ lender self.old };
+
+    /// Writes `bytes` at the place `at`, over those that stand there and on behind the end. They are not
+    /// safe until a `sync`. After `Failed` any bytes read where they were to stand.
+    ///
+    /// No file grows past 2^63 - 1 bytes: a write that would is `NoMemory` in memory and `Failed` on a real folder.
+    fn write_at(&mut self, name: &Name, at: u64, bytes: &[u8]) -> Result<(), DiskError>
+        requires there { Told (files self.old) (λ fs. IsThereWith (λ file. at ≤ length file.now) (fs name.now)) }
+        requires low { at < 2 ^ 63 }
+        ensures written { Leaves result (Changes (Wrote at bytes.now) name.now) (Changes (Smeared at (length bytes.now)) name.now) (files self.old) (files self.new) }
+        ensures fits { OnOk result (at + length bytes.now < 2 ^ 63) }
+        ensures cause { HasCause DiskError.Failed (faults self.old) (faults self.new) result }
+        ensures lender { lender self.new ≡ lender self.old };
+
+    /// Cuts the file to `to` bytes, which is not safe until a `sync`. After `Failed` any bytes, or none, read
+    /// from there on.
+    fn cut(&mut self, name: &Name, to: u64) -> Result<(), DiskError>
+        requires there { Told (files self.old) (λ fs. IsThereWith (λ file. to ≤ length file.now) (fs name.now)) }
+        ensures cut { Leaves result (Changes (WasCut to) name.now) (Changes (CutFailed to) name.now) (files self.old) (files self.new) }
+        ensures cause { HasCause DiskError.Failed (faults self.old) (faults self.new) result }
+        ensures lender { lender self.new ≡ lender self.old };
+
+    /// Makes all bytes of the file safe. After `Failed` it reads as before, and a stop leaves nothing that it
+    /// could not have left before.
+    fn sync(&mut self, name: &Name) -> Result<(), DiskError>
+        requires there { Told (files self.old) (λ fs. IsThereWith (λ _. Unit {0}) (fs name.now)) }
+        ensures synced { Leaves result (Changes Synced name.now) (Changes SyncFailed name.now) (files self.old) (files self.new) }
+        ensures cause { HasCause DiskError.Failed (faults self.old) (faults self.new) result }
+        ensures lender { lender self.new ≡ lender self.old };
+
+    /// Gives the file `from` the name `to`. After Ok the names are safe. After `Failed` it was done, or was not.
+    fn rename(&mut self, from: &Name, to: &Name) -> Result<(), DiskError>
+        requires there { Told (files self.old) (λ fs. IsThereWith (λ _. Unit {0}) (fs from.now)) }
+        requires free { Told (files self.old) (λ fs. fs to.now ≡ None) }
+        ensures renamed { Leaves result (Renamed from.now to.now) (DoneOrNot (Renamed from.now to.now)) (files self.old) (files self.new) }
+        ensures cause { HasCause DiskError.Failed (faults self.old) (faults self.new) result }
+        ensures lender { lender self.new ≡ lender self.old };
+
     /// The bytes that a file reads now are one of its images.
     ghost reads_an_image: { (disk : Self) → Told (files disk) ReadsImages };
 
@@ -62,12 +114,36 @@ impl<D: Disk> Disk for &mut D {
 
     ghost lender = { λ disk. disk.ghost_name ∷ D.lender disk.now };
 
+    fn list(&mut self) -> Result<Names, DiskError> {
+        (**self).list()
+    }
+
     fn len(&mut self, name: &Name) -> Result<Option<u64>, DiskError> {
         (**self).len(name)
     }
 
     fn read_at(&mut self, name: &Name, at: u64, into: &mut [u8]) -> Result<usize, DiskError> {
         (**self).read_at(name, at, into)
+    }
+
+    fn create(&mut self, name: &Name) -> Result<(), DiskError> {
+        (**self).create(name)
+    }
+
+    fn write_at(&mut self, name: &Name, at: u64, bytes: &[u8]) -> Result<(), DiskError> {
+        (**self).write_at(name, at, bytes)
+    }
+
+    fn cut(&mut self, name: &Name, to: u64) -> Result<(), DiskError> {
+        (**self).cut(name, to)
+    }
+
+    fn sync(&mut self, name: &Name) -> Result<(), DiskError> {
+        (**self).sync(name)
+    }
+
+    fn rename(&mut self, from: &Name, to: &Name) -> Result<(), DiskError> {
+        (**self).rename(from, to)
     }
 
     ghost reads_an_image = { λ disk. D.reads_an_image disk.now };

@@ -1,27 +1,34 @@
-ghost use base.Fml.{GName};
-ghost use Rattle.std.specs.Prelude.{◌≡◌, ◌≤◌, ◌<◌, ◌^◌, ℕ, [], None, length, IfOk, IfSome, string_bytes};
+ghost use Rattle.std.specs.Prelude.{◌≡◌, ◌≤◌, [], None, Ok, Err, IfOk, IfErr, string_bytes};
 ghost use Rattle.voy_disk.specs.Faults.{HasCause, Rose};
 
 use crate::disk::{Disk, DiskError};
+use crate::host_files::{
+    create_file, cut_file, find_or_make_folder, length_in, list_files, path_in, read_file,
+    rename_file, sync_file, sync_folder, write_file,
+};
 use crate::name::Name;
+use crate::names::Names;
 use std::alloc::{AllocError, Global};
 use std::io;
-use std::io::{ErrorKind, Read, Seek, SeekFrom};
+use std::io::ErrorKind;
 use std::rt::Files;
 
-/// The greatest length of a file on a disk: that of a vector of bytes. A longer one is a fault.
-const MAX_FILE_BYTES: u64 = 0x7fff_ffff_ffff_ffff;
-
-/// A real folder. It tells nothing of its files; that the folder keeps what is written to it is
-/// trusted.
+/// A real folder. It tells nothing of its files; that the folder keeps what is written to it, and
+/// keeps it through a stop once it is synced, is trusted.
 ///
 /// The folder is made by the first call where it is absent. A file that is no plain file, as a
-/// folder, or that cannot be read, is a fault. The count of faults stays at the end of its type.
+/// folder, or that cannot be read, is a fault; `list` passes over what is no plain file or has no
+/// `Name`. A write behind the end, a write past 2^63 - 1 bytes, a cut that would lengthen, and a new
+/// name that is taken are faults too. Each read, write and sync goes to the folder itself. `create`
+/// and `rename` sync the folder, and the first of them also the folder above, so that the folder's
+/// own name is safe. The count of faults stays at the end of its type.
 #[derive(Debug, Drop)]
 pub struct HostDisk<R> {
     host: R,
+    alloc: Global,
     folder: String,
     has_folder: bool,
+    is_folder_safe: bool,
     faults: u64,
 }
 
@@ -35,10 +42,19 @@ impl<R: Files + Drop> HostDisk<R> {
     {
         Ok(HostDisk {
             host,
+            alloc,
             folder: String::from_str(alloc, folder)?,
             has_folder: false,
+            is_folder_safe: false,
             faults: 0,
         })
+    }
+
+    /// How many of its calls failed.
+    pub fn faults(&self) -> u64
+        ensures { result ≡ host_disk_faults self.now }
+    {
+        self.faults
     }
 
     // The path of a file. The folder is there, and made where it was absent.
@@ -47,25 +63,49 @@ impl<R: Files + Drop> HostDisk<R> {
         ensures folder { host_disk_folder self.new ≡ host_disk_folder self.old }
         ensures cause { HasCause DiskError.Failed (host_disk_faults self.old) (host_disk_faults self.new) result }
     {
-        let Ok(path) = self.path(name) else {
-            return Err(DiskError::NoMemory);
-        };
-        if !self.has_folder {
-            if find_or_make_folder(&self.host, self.folder.as_str()).is_err() {
-                return Err(self.fail());
-            }
-            self.has_folder = true;
-        }
+        let path = path_in(self.alloc, self.folder.as_str(), name.as_str())?;
+        self.reach_folder()?;
         Ok(path)
     }
 
-    fn path(&self, name: &Name) -> Result<String, AllocError>
-        ensures { IfOk result (λ path. string_bytes path ≡ host_disk_path self.now name.now) }
+    // Makes the folder where it is absent.
+    fn reach_folder(&mut self) -> Result<(), DiskError>
+        ensures folder { host_disk_folder self.new ≡ host_disk_folder self.old }
+        ensures cause { HasCause DiskError.Failed (host_disk_faults self.old) (host_disk_faults self.new) result }
     {
-        let mut path = self.folder.clone()?;
-        path.push_str("/")?;
-        path.push_str(name.as_str())?;
-        Ok(path)
+        if !self.has_folder {
+            let found = find_or_make_folder(&self.host, self.folder.as_str());
+            self.counted(found)?;
+            self.has_folder = true;
+        }
+        Ok(())
+    }
+
+    // Makes the folder's own name safe in the folder above, before the first name in it has to be.
+    fn keep_folder(&mut self) -> Result<(), DiskError>
+        ensures folder { host_disk_folder self.new ≡ host_disk_folder self.old }
+        ensures cause { HasCause DiskError.Failed (host_disk_faults self.old) (host_disk_faults self.new) result }
+    {
+        if !self.is_folder_safe {
+            let above = path_in(self.alloc, self.folder.as_str(), "..")?;
+            let synced = sync_folder(&self.host, above.as_str());
+            self.counted(synced)?;
+            self.is_folder_safe = true;
+        }
+        Ok(())
+    }
+
+    // The answer of the host, where each error counts as a fault.
+    fn counted<T: Drop>(&mut self, answer: io::Result<T>) -> Result<T, DiskError>
+        ensures ok { IfOk answer (λ value. result ≡ Ok value) }
+        ensures err { IfErr answer (λ _. result ≡ Err DiskError.Failed) }
+        ensures folder { host_disk_folder self.new ≡ host_disk_folder self.old }
+        ensures cause { HasCause DiskError.Failed (host_disk_faults self.old) (host_disk_faults self.new) result }
+    {
+        match answer {
+            Ok(value) => Ok(value),
+            Err(_) => Err(self.fail()),
+        }
     }
 
     // Counts a fault.
@@ -80,6 +120,7 @@ impl<R: Files + Drop> HostDisk<R> {
     }
 }
 
+#[tactic(auto, using(crate::proofs::Untold::leaves_untold))]
 impl<R: Files + Drop> Disk for HostDisk<R> {
     ghost use Rattle.voy_disk.specs.HostDisk.{host_disk_faults};
 
@@ -89,71 +130,66 @@ impl<R: Files + Drop> Disk for HostDisk<R> {
 
     ghost lender = { λ _. [] };
 
-    fn len(&mut self, name: &Name) -> Result<Option<u64>, DiskError> {
-        let path = self.reach(name)?;
-        match open(&self.host, path.as_str()) {
-            Ok(None) => Ok(None),
-            Ok(Some(opened)) => Ok(Some(opened.bytes)),
+    fn list(&mut self) -> Result<Names, DiskError> {
+        self.reach_folder()?;
+        match list_files(&self.host, self.alloc, self.folder.as_str()) {
+            Ok(names) => Ok(names),
+            Err(error) if error.kind() == ErrorKind::OutOfMemory => Err(DiskError::NoMemory),
             Err(_) => Err(self.fail()),
         }
     }
 
+    fn len(&mut self, name: &Name) -> Result<Option<u64>, DiskError> {
+        let path = self.reach(name)?;
+        let length = length_in(&self.host, path.as_str());
+        self.counted(length)
+    }
+
     fn read_at(&mut self, name: &Name, at: u64, into: &mut [u8]) -> Result<usize, DiskError> {
         let path = self.reach(name)?;
-        match read_file(&self.host, path.as_str(), at, into) {
-            Ok(count) => Ok(count),
-            Err(_) => Err(self.fail()),
-        }
+        let read = read_file(&self.host, path.as_str(), at, into);
+        self.counted(read)
+    }
+
+    fn create(&mut self, name: &Name) -> Result<(), DiskError> {
+        let path = self.reach(name)?;
+        self.keep_folder()?;
+        let created = create_file(&self.host, self.folder.as_str(), path.as_str());
+        self.counted(created)
+    }
+
+    fn write_at(&mut self, name: &Name, at: u64, bytes: &[u8]) -> Result<(), DiskError> {
+        let path = self.reach(name)?;
+        let written = write_file(&self.host, path.as_str(), at, bytes);
+        self.counted(written)
+    }
+
+    fn cut(&mut self, name: &Name, to: u64) -> Result<(), DiskError> {
+        let path = self.reach(name)?;
+        let shortened = cut_file(&self.host, path.as_str(), to);
+        self.counted(shortened)
+    }
+
+    fn sync(&mut self, name: &Name) -> Result<(), DiskError> {
+        let path = self.reach(name)?;
+        let synced = sync_file(&self.host, path.as_str());
+        self.counted(synced)
+    }
+
+    fn rename(&mut self, from: &Name, to: &Name) -> Result<(), DiskError> {
+        let old_path = self.reach(from)?;
+        let new_path = self.reach(to)?;
+        self.keep_folder()?;
+        let renamed = rename_file(
+            &self.host,
+            self.folder.as_str(),
+            old_path.as_str(),
+            new_path.as_str(),
+        );
+        self.counted(renamed)
     }
 
     ghost reads_an_image = { λ _. tt };
 
     ghost has_short_files = { λ _. tt };
-}
-
-// A file that is open for reading, and its length in bytes.
-#[derive(Drop)]
-struct Opened<F> {
-    file: F,
-    bytes: u64,
-}
-
-// Opens a plain file, or answers `None` where nothing has this path.
-fn open<R: Files>(host: &R, path: &str) -> io::Result<Option<Opened<R::File>>>
-    ensures { IfOk result (λ found. IfSome found (λ opened. opened.bytes < 2 ^ 63)) }
-{
-    let about = match host.metadata(path) {
-        Ok(about) => about,
-        Err(error) if error.kind() == ErrorKind::NotFound => return Ok(None),
-        Err(error) => return Err(error),
-    };
-    let bytes = about.len();
-    if !about.is_file() || bytes > MAX_FILE_BYTES {
-        return Err(io::Error::from(ErrorKind::InvalidInput));
-    }
-    let file = std::fs::open(host, path)?;
-    Ok(Some(Opened { file, bytes }))
-}
-
-// Reads from a place of a file, or nothing where the file is absent or ends before that place.
-fn read_file<R: Files>(host: &R, path: &str, at: u64, into: &mut [u8]) -> io::Result<usize>
-    ensures { IfOk result (λ count. count ≤ length into.old) }
-{
-    let Some(mut opened) = open(host, path)? else {
-        return Ok(0);
-    };
-    if at >= opened.bytes || into.is_empty() {
-        return Ok(0);
-    }
-    opened.file.seek(SeekFrom::Start(at))?;
-    opened.file.read(into)
-}
-
-fn find_or_make_folder<R: Files>(host: &R, folder: &str) -> io::Result<()> {
-    match host.metadata(folder) {
-        Ok(about) if about.is_dir() => Ok(()),
-        Ok(_) => Err(io::Error::from(ErrorKind::NotADirectory)),
-        Err(error) if error.kind() == ErrorKind::NotFound => host.create_dir(folder),
-        Err(error) => Err(error),
-    }
 }

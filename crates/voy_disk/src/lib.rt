@@ -8,8 +8,10 @@
 //! leave of it are its images (`IsImage`). A disk that does not tell them is safe to use, and nothing
 //! is said of what it reads.
 //!
-//! The clause to know is `cause`, which each call of both traits has: the call answers `Failed` only
-//! where the count of faults of its disk or sink rose. After `NoMemory` nothing changed.
+//! Each writing call says by `Leaves` what it does to the files at Ok, and what it leaves where the disk
+//! failed; after `NoMemory` nothing changed. The laws in `specs/ImageLaws.antt` lead from there to the
+//! images, in the words of `specs/Steps.antt`. By the clause `cause` a call answers `Failed` only where the
+//! count of faults of its disk or sink rose.
 //!
 //! - `MemDisk` fails by a `FaultPlan`, `SureDisk` never, and `HostDisk` is a real folder.
 //! - `MemSink` keeps what is written to it, and `HostSink` is a standard stream.
@@ -17,14 +19,21 @@
 //! - `Place` has the four disks of a move. A file on a disk goes by its `Name`.
 #![tactic(auto)]
 
+mod answering;
 mod disk;
 mod file;
 mod host_disk;
+mod host_files;
 mod host_sink;
+mod mem_changes;
+mod mem_crash;
 mod mem_disk;
+mod mem_file;
 mod mem_files;
+mod mem_names;
 mod mem_sink;
 mod name;
+mod names;
 mod numbers;
 mod place;
 mod plan;
@@ -41,6 +50,7 @@ pub use host_sink::HostSink;
 pub use mem_disk::MemDisk;
 pub use mem_sink::MemSink;
 pub use name::{MAX_NAME_BYTES, Name};
+pub use names::Names;
 pub use numbers::Numbers;
 pub use place::Place;
 pub use plan::FaultPlan;

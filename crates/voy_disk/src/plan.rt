@@ -10,12 +10,13 @@ pub struct FaultPlan {
     pub fail: Numbers,
     /// The number of the call from which on all calls fail; 0 where there is none.
     pub dead_from: u64,
-    /// Picks what a failed call leaves of its change.
+    /// Picks what a failed call leaves of its change: how much of what was to be written or cut, and
+    /// whether a file was made, renamed or made safe.
     pub leaves: u64,
 }
 
 impl FaultPlan {
-    ghost use Rattle.voy_disk.specs.Plan.{has_planned};
+    ghost use Rattle.voy_disk.specs.Plan.{has_planned, is_dead_at};
 
     /// The plan by which no call fails.
     pub fn none(alloc: Global) -> FaultPlan
@@ -32,6 +33,13 @@ impl FaultPlan {
     pub fn fails_at(&self, call: u64) -> bool
         ensures { result ≡ has_planned self.now call }
     {
-        self.fail.contains(call) || (self.dead_from > 0 && self.dead_from <= call)
+        self.fail.contains(call) || self.is_dead_at(call)
+    }
+
+    /// Whether all calls from the one with this number on fail.
+    pub fn is_dead_at(&self, call: u64) -> bool
+        ensures { result ≡ is_dead_at self.now call }
+    {
+        self.dead_from > 0 && self.dead_from <= call
     }
 }

@@ -1,12 +1,17 @@
 ghost use base.Fml.{GName};
-ghost use Rattle.std.specs.Prelude.{◌≡◌, ◌≤◌, ◌<◌, ◌^◌, ◌↔◌, ℕ, [], Some, None, length, IfOk, IfSome, OnOk, OnErr, IsOk};
+ghost use Rattle.std.specs.Prelude.{◌≡◌, ◌≤◌, ◌<◌, ◌+◌, ◌^◌, ◌↔◌, ℕ, [], Some, None, length, IfErr, IfOk, IfSome, OnOk, OnErr, IsOk};
 ghost use Rattle.std.specs.Option.{option_map};
+ghost use Rattle.voy_disk.specs.Calls.{Changes, Created, CutFailed, DoneOrNot, IsThereWith, Leaves, Lists, Renamed, Smeared, SyncFailed, Synced, WasCut, Wrote};
 ghost use Rattle.voy_disk.specs.Files.{Files, Told, Puts, length_of, bytes_now, Reads, NothingToRead};
 ghost use Rattle.voy_disk.specs.MemFiles.{shown, files_read_images, files_are_short};
 
+use crate::answering::answer;
 use crate::disk::{Disk, DiskError};
+use crate::mem_changes::{create_in, cut_in, rename_in, sync_in, write_in};
 use crate::mem_files::{MemFiles, bytes_in, length_in, put_in, read_in};
+use crate::mem_names::names_in;
 use crate::name::Name;
+use crate::names::Names;
 use std::alloc::{AllocError, Global};
 use std::collections::BTreeMap;
 
@@ -56,6 +61,14 @@ impl Disk for SureDisk {
 
     ghost lender = { λ _. [] };
 
+    fn list(&mut self) -> Result<Names, DiskError>
+        ensures names { IfOk result (λ names. Lists (sure_disk_files self.old) names) }
+        ensures same { sure_disk_files self.new ≡ sure_disk_files self.old }
+        ensures sure { IfErr result (λ error. error ≡ DiskError.NoMemory) }
+    {
+        Ok(names_in(self.alloc, &self.files)?)
+    }
+
     fn len(&mut self, name: &Name) -> Result<Option<u64>, DiskError>
         ensures length { IfOk result (λ n. n ≡ length_of (sure_disk_files self.old name.now)) }
         ensures short { IfOk result (λ n. IfSome n (λ bytes. bytes < 2 ^ 63)) }
@@ -73,6 +86,52 @@ impl Disk for SureDisk {
         ensures sure { IsOk result }
     {
         Ok(read_in(&self.files, name, at, into))
+    }
+
+    fn create(&mut self, name: &Name) -> Result<(), DiskError>
+        ensures files { Leaves result (Created name.now) (DoneOrNot (Created name.now)) (Some (sure_disk_files self.old)) (Some (sure_disk_files self.new)) }
+        ensures sure { IfErr result (λ error. error ≡ DiskError.NoMemory) }
+    {
+        let done = create_in(self.alloc, &mut self.files, name);
+        answer(Ok(()), done)
+    }
+
+    fn write_at(&mut self, name: &Name, at: u64, bytes: &[u8]) -> Result<(), DiskError>
+        requires there { IsThereWith (λ file. at ≤ length file.now) (sure_disk_files self.old name.now) }
+        ensures files { Leaves result (Changes (Wrote at bytes.now) name.now) (Changes (Smeared at (length bytes.now)) name.now) (Some (sure_disk_files self.old)) (Some (sure_disk_files self.new)) }
+        ensures fits { OnOk result (at + length bytes.now < 2 ^ 63) }
+        ensures sure { IfErr result (λ error. error ≡ DiskError.NoMemory) }
+    {
+        let done = write_in(&mut self.files, name, at, bytes, bytes.len() as u64);
+        answer(Ok(()), done)
+    }
+
+    fn cut(&mut self, name: &Name, to: u64) -> Result<(), DiskError>
+        requires there { IsThereWith (λ file. to ≤ length file.now) (sure_disk_files self.old name.now) }
+        ensures files { Leaves result (Changes (WasCut to) name.now) (Changes (CutFailed to) name.now) (Some (sure_disk_files self.old)) (Some (sure_disk_files self.new)) }
+        ensures sure { IfErr result (λ error. error ≡ DiskError.NoMemory) }
+    {
+        let done = cut_in(&mut self.files, name, to, to);
+        answer(Ok(()), done)
+    }
+
+    fn sync(&mut self, name: &Name) -> Result<(), DiskError>
+        requires there { IsThereWith (λ _. Unit {0}) (sure_disk_files self.old name.now) }
+        ensures files { Leaves result (Changes Synced name.now) (Changes SyncFailed name.now) (Some (sure_disk_files self.old)) (Some (sure_disk_files self.new)) }
+        ensures sure { IfErr result (λ error. error ≡ DiskError.NoMemory) }
+    {
+        let done = sync_in(&mut self.files, name);
+        answer(Ok(()), done)
+    }
+
+    fn rename(&mut self, from: &Name, to: &Name) -> Result<(), DiskError>
+        requires there { IsThereWith (λ _. Unit {0}) (sure_disk_files self.old from.now) }
+        requires free { sure_disk_files self.old to.now ≡ None }
+        ensures files { Leaves result (Renamed from.now to.now) (DoneOrNot (Renamed from.now to.now)) (Some (sure_disk_files self.old)) (Some (sure_disk_files self.new)) }
+        ensures sure { IfErr result (λ error. error ≡ DiskError.NoMemory) }
+    {
+        let done = rename_in(self.alloc, &mut self.files, from, to);
+        answer(Ok(()), done)
     }
 
     ghost reads_an_image = { λ disk. files_read_images disk.files };

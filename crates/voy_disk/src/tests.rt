@@ -1,4 +1,7 @@
+mod checked;
+mod flaky_host;
 mod host_disks;
+mod memory_changes;
 mod memory_disks;
 mod names;
 mod sinks;
