@@ -28,6 +28,8 @@ mod reader;
 mod reading;
 mod state;
 mod storing;
+#[cfg(test)]
+mod tests;
 
 pub use error::JournalError;
 pub use laws::one_reading;
