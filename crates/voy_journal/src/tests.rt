@@ -2,7 +2,8 @@ ghost use Rattle.std.specs.Prelude.{IsTrue};
 ghost use Rattle.voy_journal.specs.Journal.{StandsOn, is_live};
 
 use crate::{Journal, JournalError, Payloads, one_reading};
-use std::alloc::Global;
+use std::alloc::{AllocGlobal, Global};
+use std::process::Abort;
 use std::test::Fail;
 use voy_disk::{Disk, FaultPlan, MemDisk, Name, Numbers, SureDisk};
 
@@ -40,14 +41,21 @@ fn payloads_on<D: Disk>(alloc: Global, disk: &mut D) -> Result<Payloads, Fail> {
     Ok(opened.payloads)
 }
 
-// The place of the first damaged gate of a journal's bytes.
-fn damage_of(alloc: Global, bytes: &[u8]) -> Result<Option<u64>, Fail> {
+// Opens these bytes as a journal: the place of the first damaged gate is this one, or there is none.
+fn try_damage(
+    rt: &(impl Abort + AllocGlobal),
+    bytes: &[u8],
+    want: Option<u64>,
+) -> Result<(), Fail> {
+    let alloc = rt.alloc();
     let mut disk = disk_with(alloc, bytes)?;
-    match Journal::open(alloc, &mut disk, name_of(alloc)?) {
-        Ok(_) => Ok(None),
-        Err(JournalError::Damaged { offset }) => Ok(Some(offset)),
-        Err(other) => Err(other.into()),
-    }
+    let found = match Journal::open(alloc, &mut disk, name_of(alloc)?) {
+        Ok(_) => None,
+        Err(JournalError::Damaged { offset }) => Some(offset),
+        Err(other) => return Err(other.into()),
+    };
+    assert_eq!(rt; found, want, "in {bytes:?}");
+    Ok(())
 }
 
 // Appends the payloads 1 1, 2 2 and so on, up to the first error. How many were acknowledged.
@@ -104,6 +112,80 @@ fn stopped_at(alloc: Global, call: u64, choice: u64, appends: u8) -> Result<Left
     Ok(Left { disk, acknowledged })
 }
 
+// Three appends, of which this call stops, an outage, an opening and one more append.
+fn try_outage(rt: &(impl Abort + AllocGlobal), call: u64, choice: u64) -> Result<(), Fail> {
+    let alloc = rt.alloc();
+    let mut left = stopped_at(alloc, call, choice, 3)?;
+    let mut opened = Journal::open(alloc, &mut left.disk, name_of(alloc)?)?;
+    let mut old = opened.payloads.into_vec();
+    assert!(rt; old.len() <= 3, "stopped at call {call}, outage {choice}");
+    assert!(rt;
+        old.len() >= left.acknowledged as usize,
+        "stopped at call {call}, outage {choice}"
+    );
+    assert!(rt; are_pairs(&old), "stopped at call {call}, outage {choice}");
+    opened.journal.append(&mut left.disk, b"new")?;
+    old.push(Vec::from_slice(alloc, b"new")?)?;
+    let payloads = payloads_on(alloc, &mut left.disk)?.into_vec();
+    assert!(rt; payloads == old, "stopped at call {call}, outage {choice}");
+    Ok(())
+}
+
+// A closed gate and other bytes behind it: no payload, and an append writes over them.
+fn try_closed(rt: &(impl Abort + AllocGlobal), gate: u8) -> Result<(), Fail> {
+    let alloc = rt.alloc();
+    let mut disk = disk_with(alloc, &[gate, 1, 0xff, 0xff])?;
+    let mut opened = Journal::open(alloc, &mut disk, name_of(alloc)?)?;
+    assert!(rt; opened.payloads.as_slice().is_empty());
+    opened.journal.append(&mut disk, &[9])?;
+    assert_eq!(rt;
+        disk.file(&name_of(alloc)?),
+        Some([1, 0, 0, 0, 1, 9, 0].as_slice())
+    );
+    Ok(())
+}
+
+fn try_fault_at_opening(rt: &(impl Abort + AllocGlobal), call: u64) -> Result<(), Fail> {
+    let alloc = rt.alloc();
+    let mut disk = stopping_disk(alloc, call, 0);
+    let opened = Journal::open(alloc, &mut disk, name_of(alloc)?);
+    assert!(rt;
+        matches!(opened, Err(JournalError::Fault)),
+        "at call {call}"
+    );
+    Ok(())
+}
+
+fn try_fault_at_append(rt: &(impl Abort + AllocGlobal), call: u64) -> Result<(), Fail> {
+    let alloc = rt.alloc();
+    let mut disk = stopping_disk(alloc, OPENING_CALLS.saturating_add(call), 0);
+    let mut opened = Journal::open(alloc, &mut disk, name_of(alloc)?)?;
+    let appended = opened.journal.append(&mut disk, &[1, 1]);
+    assert_eq!(rt; appended, Err(JournalError::Fault), "at call {call}");
+    assert!(rt; !opened.journal.live());
+    Ok(())
+}
+
+// One append that this call stops, and an outage: at most so many payloads stand.
+fn try_stop(
+    rt: &(impl Abort + AllocGlobal),
+    call: u64,
+    choice: u64,
+    most: usize,
+) -> Result<(), Fail> {
+    let alloc = rt.alloc();
+    let mut left = stopped_at(alloc, call, choice, 1)?;
+    assert_eq!(rt; left.acknowledged, 0);
+    let payloads = payloads_on(alloc, &mut left.disk)?;
+    let found = payloads.as_slice();
+    assert!(rt;
+        found.len() <= most,
+        "stopped at call {call}, outage {choice}"
+    );
+    assert!(rt; are_pairs(found), "stopped at call {call}, outage {choice}");
+    Ok(())
+}
+
 #[test]
 fn an_append_is_an_open_gate_a_length_the_payload_and_a_closed_gate(
     rt: HostRuntime,
@@ -130,18 +212,9 @@ fn an_append_is_an_open_gate_a_length_the_payload_and_a_closed_gate(
 fn an_append_that_stops_leaves_its_payload_only_once_the_gate_is_written(
     rt: HostRuntime,
 ) -> Result<(), Fail> {
-    let alloc = rt.alloc();
     for (call, most) in [(1, 0), (2, 0), (3, 1), (4, 1)] {
         for choice in 0..CHOICES {
-            let mut left = stopped_at(alloc, call, choice, 1)?;
-            assert_eq!(rt; left.acknowledged, 0);
-            let payloads = payloads_on(alloc, &mut left.disk)?;
-            let found = payloads.as_slice();
-            assert!(rt;
-                found.len() <= most,
-                "stopped at call {call}, outage {choice}"
-            );
-            assert!(rt; are_pairs(found), "stopped at call {call}, outage {choice}");
+            try_stop(&rt, call, choice, most)?;
         }
     }
     Ok(())
@@ -154,19 +227,7 @@ fn after_an_outage_each_acknowledged_payload_stands_and_appends_go_on(
     let alloc = rt.alloc();
     for call in 1..=3 * APPEND_CALLS {
         for choice in 0..CHOICES {
-            let mut left = stopped_at(alloc, call, choice, 3)?;
-            let mut opened = Journal::open(alloc, &mut left.disk, name_of(alloc)?)?;
-            let mut old = opened.payloads.into_vec();
-            assert!(rt; old.len() <= 3, "stopped at call {call}, outage {choice}");
-            assert!(rt;
-                old.len() >= left.acknowledged as usize,
-                "stopped at call {call}, outage {choice}"
-            );
-            assert!(rt; are_pairs(&old), "stopped at call {call}, outage {choice}");
-            opened.journal.append(&mut left.disk, b"new")?;
-            old.push(Vec::from_slice(alloc, b"new")?)?;
-            let payloads = payloads_on(alloc, &mut left.disk)?.into_vec();
-            assert!(rt; payloads == old, "stopped at call {call}, outage {choice}");
+            try_outage(&rt, call, choice)?;
         }
     }
     Ok(())
@@ -174,49 +235,32 @@ fn after_an_outage_each_acknowledged_payload_stands_and_appends_go_on(
 
 #[test]
 fn damage_is_found_at_its_gate(rt: HostRuntime) -> Result<(), Fail> {
-    let alloc = rt.alloc();
-    assert_eq!(rt; damage_of(alloc, &[1, 0, 0, 0, 2, 1])?, Some(0));
-    assert_eq!(rt; damage_of(alloc, &[1, 0x40, 0, 0, 1, 0])?, Some(0));
-    assert_eq!(rt; damage_of(alloc, &[1, 0, 0])?, Some(0));
-    assert_eq!(rt; damage_of(alloc, &[1, 0, 0, 0, 2, 1, 1])?, Some(0));
-    assert_eq!(rt; damage_of(alloc, &[1, 0, 0, 0, 1, 0x41, 1, 0, 0])?, Some(6));
-    assert_eq!(rt; damage_of(alloc, &[1, 0, 0, 0, 0, 0])?, None);
-    assert_eq!(rt; damage_of(alloc, &[1])?, None);
-    assert_eq!(rt; damage_of(alloc, &[])?, None);
+    try_damage(&rt, &[1, 0, 0, 0, 2, 1], Some(0))?;
+    try_damage(&rt, &[1, 0x40, 0, 0, 1, 0], Some(0))?;
+    try_damage(&rt, &[1, 0, 0], Some(0))?;
+    try_damage(&rt, &[1, 0, 0, 0, 2, 1, 1], Some(0))?;
+    try_damage(&rt, &[1, 0, 0, 0, 1, 0x41, 1, 0, 0], Some(6))?;
+    try_damage(&rt, &[1, 0, 0, 0, 0, 0], None)?;
+    try_damage(&rt, &[1], None)?;
+    try_damage(&rt, &[], None)?;
     Ok(())
 }
 
 #[test]
 fn what_stands_behind_a_closed_gate_means_nothing(rt: HostRuntime) -> Result<(), Fail> {
-    let alloc = rt.alloc();
-    let name = name_of(alloc)?;
     for gate in [0, 2, 255] {
-        let mut disk = disk_with(alloc, &[gate, 1, 0xff, 0xff])?;
-        let mut opened = Journal::open(alloc, &mut disk, name_of(alloc)?)?;
-        assert!(rt; opened.payloads.as_slice().is_empty());
-        opened.journal.append(&mut disk, &[9])?;
-        assert_eq!(rt; disk.file(&name), Some([1, 0, 0, 0, 1, 9, 0].as_slice()));
+        try_closed(&rt, gate)?;
     }
     Ok(())
 }
 
 #[test]
 fn a_fault_is_handed_on_and_ends_the_journal(rt: HostRuntime) -> Result<(), Fail> {
-    let alloc = rt.alloc();
     for call in 1..=OPENING_CALLS {
-        let mut disk = stopping_disk(alloc, call, 0);
-        let opened = Journal::open(alloc, &mut disk, name_of(alloc)?);
-        assert!(rt;
-            matches!(opened, Err(JournalError::Fault)),
-            "at call {call}"
-        );
+        try_fault_at_opening(&rt, call)?;
     }
     for call in 1..=APPEND_CALLS {
-        let mut disk = stopping_disk(alloc, OPENING_CALLS + call, 0);
-        let mut opened = Journal::open(alloc, &mut disk, name_of(alloc)?)?;
-        let appended = opened.journal.append(&mut disk, &[1, 1]);
-        assert_eq!(rt; appended, Err(JournalError::Fault), "at call {call}");
-        assert!(rt; !opened.journal.live());
+        try_fault_at_append(&rt, call)?;
     }
     Ok(())
 }
