@@ -1,0 +1,111 @@
+-- What the making and the settling of a journal's file leave.
+use Rattle.std.proofs.Common.{◌≡◌, ◌≤◌, ◌⊎◌, inl, inr, ℕ, List, [], ◌∷◌, Option, Some, None, Result, Ok, Err, length, refl, sym, ap, ◌∙◌, arith}
+use Rattle.std.proofs.lemmas.Option.{none-some}
+use Rattle.voy_disk.specs.Calls.{Change, Changes, Created, DoneOrNot, Leaves, SameOutside, Synced, or_empty}
+use Rattle.voy_disk.specs.File.{File, settled}
+use Rattle.voy_disk.specs.FileLaws.{one_image}
+use Rattle.voy_disk.specs.Files.{Files, IfTold, bytes_now}
+use Rattle.voy_disk.specs.ImageLaws.{create_follows, image_there}
+use Rattle.voy_disk.specs.Images.{Image, ImagesOf, Makes, StepAt}
+use Rattle.voy_disk.specs.Steps.{Follows, Same}
+use Rattle.voy_disk.specs.StepLaws.{follows_weaker}
+use Rattle.voy_disk.specs.declared.disk.DiskError.{DiskError}
+use Rattle.voy_disk.specs.declared.disk.DiskError.TheVariants.{Failed, NoMemory}
+use Rattle.voy_journal.specs.Grammar.{payloads_of}
+use Rattle.voy_journal.specs.GrammarLaws.{payloads_read}
+use Rattle.voy_journal.specs.Journal.{KeepsOtherFiles, KeepsPayloads, StandsAt, bytes_in, payloads_in}
+use Rattle.voy_journal.specs.Storing.{Rewrites, Settles}
+use Rattle.voy_journal.proofs.Calls.{at_new, change_on, change_weaker, file_same, no_change}
+
+-- an empty file that was made has no payload, as the absent one
+keeps_making : (name : List ℕ) (i j : Image) → Same i j ⊎ Makes name i j → KeepsPayloads name i j
+keeps_making name i j (inl same) = record {
+  payloads = ap (λ image. payloads_in name image) same;
+  others = λ other differs. ap (λ image. image other) same;
+}
+keeps_making name i j (inr makes) = record {
+  payloads = ap (λ found. payloads_of (bytes_in found)) makes.is ∙ ap (λ found. payloads_of (bytes_in found)) (sym makes.free);
+  others = makes.others;
+}
+
+-- whatever a creation answers
+pub created_keeps : {T : Type 0} (result : Result T DiskError) (name : List ℕ) (old new : Option Files)
+    → Leaves result (Created name) (DoneOrNot (Created name)) old new → Follows (KeepsPayloads name) (ImagesOf old) (ImagesOf new)
+created_keeps result name old new created = follows_weaker (create_follows result name old new created) (keeps_making name)
+
+pub created_others : {T : Type 0} (result : Result T DiskError) (name : List ℕ) (old new : Option Files)
+    → Leaves result (Created name) (DoneOrNot (Created name)) old new → Change (KeepsOtherFiles name) old new
+created_others (Ok value) name old new created = change_weaker created (λ x y r. r.others)
+created_others (Err Failed) name old new created = change_weaker created (λ x y r. done_or_not x y r) where
+  done_or_not : (x y : Files) → DoneOrNot (Created name) x y → KeepsOtherFiles name x y
+  done_or_not x y (inl same) = λ other differs. ap (λ files. files other) same
+  done_or_not x y (inr made) = made.others
+created_others (Err NoMemory) name old new same = no_change (KeepsOtherFiles name) (λ x other differs. refl) old new same
+
+bytes_of : (found : Option File) → (or_empty found).now ≡ bytes_now found
+bytes_of None = refl
+bytes_of (Some file) = refl
+
+-- a creation and a sync that answered Ok, and a call that changed nothing
+pub settles : (name : List ℕ) (a b c d : Option Files) → Change (Created name) a b → Change (Changes Synced name) b c → d ≡ c → Change (Settles name) a d
+settles name a b c d created synced same = rw same (change_on created synced (λ x y z made sync.
+    let old : sync.before ≡ or_empty (x name) = file_same (sym sync.was ∙ made.is) in
+    sync.is ∙ ap Some (sync.step ∙ ap (λ (file : File). settled file.now) old ∙ ap settled (bytes_of (x name)))))
+
+-- the file is safe, and has so many bytes
+pub record IsSettledTo (name : List ℕ) (end : ℕ) (files : Files) : Type 0 where
+  pub bytes : List ℕ
+  pub is : files name ≡ Some (settled bytes)
+  pub size : length bytes ≡ end
+
+pub settled_to : (name : List ℕ) (end : ℕ) (a b : Option Files) → Change (Settles name) a b → IfTold a (λ fs. end ≡ length (bytes_now (fs name))) → IfTold b (IsSettledTo name end)
+settled_to name end a b settled counts y is =
+    let old = at_new settled y is in
+    record { bytes = bytes_now (old.0 name); is = old.2; size = sym (counts old.0 old.1) }
+
+-- at most one byte stays at most one where the first is written over
+few_bytes : (before after : List ℕ) → SameOutside 0 1 before after → length before ≤ 1 → length after ≤ 1
+few_bytes before [] same few = omega arith
+few_bytes before (x ∷ []) same few = omega arith
+few_bytes [] (x ∷ (y ∷ ys)) same few = absurd (none-some y (sym (same 1 (inr (omega arith)))))
+few_bytes (b ∷ []) (x ∷ (y ∷ ys)) same few = absurd (none-some y (sym (same 1 (inr (omega arith)))))
+few_bytes (b ∷ (d ∷ ds)) (x ∷ (y ∷ ys)) same few = absurd (omega arith)
+
+no_payloads : (name : List ℕ) (image : Image) (bytes : List ℕ) → image name ≡ Some bytes → length bytes ≤ 1 → payloads_in name image ≡ Some []
+no_payloads name image bytes is few = ap (λ found. payloads_of (bytes_in found)) is ∙ payloads_read [] bytes (inr (few, refl))
+
+-- an empty journal that is made anew is empty in each image
+pub remade : (name : List ℕ) (end : ℕ) (a b c : Option Files) → Follows (KeepsPayloads name) (ImagesOf a) (ImagesOf b) → IfTold b (IsSettledTo name end) → end ≤ 1
+    → Follows (StepAt name (SameOutside 0 1)) (ImagesOf b) (ImagesOf c) → Follows (KeepsPayloads name) (ImagesOf a) (ImagesOf c)
+remade name end a None c kept small few wrote = record { from = λ k is. absurd (wrote.from k is).was }
+remade name end a (Some fs) c kept small few wrote = record {
+  from = λ k is.
+      let y = wrote.from k is in
+      let x = kept.from y.before y.was in
+      let file = small fs refl in
+      let there = image_there (fs name) (y.before name) (settled file.bytes) file.is (y.was name) in
+      let size : length y.by.before ≤ 1 = omega (arith, ap length (one_image file.bytes there.bytes there.of_file), ap length (same_bytes y.by.before there.bytes (sym y.by.was ∙ there.is)), file.size) in
+      record {
+        before = x.before;
+        was = x.was;
+        by = record {
+          payloads = no_payloads name k y.by.after y.by.is (few_bytes y.by.before y.by.after y.by.by size)
+              ∙ sym (no_payloads name y.before y.by.before y.by.was size) ∙ x.by.payloads;
+          others = λ other differs. y.by.others other differs ∙ x.by.others other differs;
+        };
+      };
+} where
+  same_bytes : (p q : List ℕ) → Some p ≡ Some q → p ≡ q
+  same_bytes p q same = cc
+
+-- it stands with no payload
+pub stands_anew : (name : List ℕ) (end : ℕ) (b c : Option Files) → IfTold b (IsSettledTo name end) → Change (Rewrites name 0 (0 ∷ [])) b c → IfTold c (StandsAt name 0 [])
+stands_anew name end b c small rewrites z is =
+    let old = at_new rewrites z is in
+    let file = small old.0 old.1 in
+    record {
+      bytes = _;
+      file = old.2 file.bytes file.is;
+      holds = record { gate = 0; rest = _; split = refl; shut = λ same. omega (arith, same); fit = tt };
+      at = refl;
+    }

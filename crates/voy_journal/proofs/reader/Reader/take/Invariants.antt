@@ -1,0 +1,16 @@
+use Rattle.std.proofs.Common.{◌≡◌, ◌-◌, ◌+◌, ◌≤◌, ◌++◌, vec_len}
+use Rattle.voy_journal.specs.Reader.{OfBytes, bytes_left, unread}
+use Rattle.voy_journal.proofs.reader.Reader.take.Given as goal
+
+abbrev pub invariant-loop-self : goal.invariant-loop-self
+invariant-loop-self g l = record {
+  so_far : OfBytes (g.D.Disk.files l.fn.disk) l.fn.name (λ bytes. unread l.fn.self bytes ≡ l.part.items ++ unread l.self bytes);
+  size : vec_len l.part ≤ l.size;
+  fewer : bytes_left l.self + vec_len l.part ≤ bytes_left l.fn.self;
+  same : g.D.Disk.files l.disk ≡ g.D.Disk.files l.fn.disk;
+  later : g.D.Disk.faults l.fn.disk ≤ g.D.Disk.faults l.disk;
+  lender : g.D.Disk.lender l.disk ≡ g.D.Disk.lender l.fn.disk;
+}
+
+abbrev pub decreases-loop-self : goal.decreases-loop-self
+decreases-loop-self g l = l.size - vec_len l.part

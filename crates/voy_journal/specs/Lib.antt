@@ -1,0 +1,10 @@
+pub mod Appending
+pub mod Blocks
+pub mod Errors
+pub mod Grammar
+pub mod GrammarLaws
+pub mod Journal
+pub mod JournalLaws
+pub mod Reader
+pub mod Reading
+pub mod Storing
