@@ -11,6 +11,7 @@
 #![tactic(auto)]
 
 mod ascending;
+mod counts;
 mod fields;
 mod items;
 mod laws;
@@ -23,6 +24,7 @@ mod txn;
 mod unread;
 mod writing;
 
+pub use counts::Counts;
 pub use laws::payloads_read_back;
 pub use limits::{MAX_CHANNELS, MAX_TXN_ITEMS};
 pub use reading::read_txn;
