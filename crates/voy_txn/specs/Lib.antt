@@ -5,3 +5,4 @@ pub mod Laws
 pub mod Items
 pub mod History
 pub mod Contents
+pub mod Commits
