@@ -6,3 +6,4 @@ pub mod Items
 pub mod History
 pub mod Contents
 pub mod Commits
+pub mod HistoryLaws
