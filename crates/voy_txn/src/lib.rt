@@ -1,4 +1,4 @@
-//! Transactions of a store, and the bytes that a store keeps of them.
+//! Transactions, the bytes that a store keeps of them, and the trait of stores.
 //!
 //! A [`Txn`] is one step of a store: the one load of all tables, a batch of snapshot rows with its
 //! marker, or a run of changes of one channel. [`write_txn`] appends its payload, and [`read_txn`] gives
@@ -8,23 +8,33 @@
 //! schema, and the bytes are exactly `payload_of` it (`specs/Payload.antt`). What is read is such a
 //! transaction, and where none is read there is no such transaction. The law [`payloads_read_back`] says
 //! that bytes are the payload of one transaction at most, so what is written reads back as the same.
+//!
+//! The trait [`Store`] takes transactions. What they make of it is read off the list of them, its history
+//! (`specs/History.antt`); which item is the first that does not fit says `violation_of` (`specs/Items.antt`).
+//! The clauses of [`Store::commit`] say what changes at Ok, when each error comes, and what a stop may leave.
 #![tactic(auto)]
 
 mod ascending;
+mod counts;
 mod fields;
 mod items;
 mod laws;
 mod limits;
 mod reading;
 mod rows;
+mod store;
+mod store_error;
 #[cfg(test)]
 mod tests;
 mod txn;
 mod unread;
 mod writing;
 
+pub use counts::Counts;
 pub use laws::payloads_read_back;
 pub use limits::{MAX_CHANNELS, MAX_TXN_ITEMS};
 pub use reading::read_txn;
+pub use store::Store;
+pub use store_error::StoreError;
 pub use txn::Txn;
 pub use writing::write_txn;
