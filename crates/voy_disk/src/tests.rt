@@ -5,6 +5,7 @@ mod memory_changes;
 mod memory_disks;
 mod names;
 mod sinks;
+mod stops;
 
 use crate::name::Name;
 use std::alloc::Global;

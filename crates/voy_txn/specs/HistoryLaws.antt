@@ -37,7 +37,7 @@ loaded_grow history txn = list_any-append is_load history (txn ∷ []) ∙ ap (�
 -- a batch is among those of a longer history where it was, or is the new one
 pub batches_grow : (history : History) (txn : Txn) (table batch : ℕ)
     → list_any (λ b. is_batch (Some b) table batch) (batches_of (history ++ txn ∷ []))
-        ≡ (list_any (λ b. is_batch (Some b) table batch) (batches_of history) || is_batch (batch_of txn) table batch)
+    ≡ (list_any (λ b. is_batch (Some b) table batch) (batches_of history) || is_batch (batch_of txn) table batch)
 batches_grow history txn table batch =
     ap (list_any is_it) (filter_map-append batch_of history (txn ∷ []))
     ∙ list_any-append is_it (batches_of history) (filter_map batch_of (txn ∷ []))
@@ -54,12 +54,13 @@ batches_grow history txn table batch =
 pub contents_grow : (schema : List Table) (history : History) (txn : Txn)
     → contents_of schema (history ++ txn ∷ []) ≡ contents_after schema (contents_of schema history) txn
 contents_grow schema history txn = λ i. record {
-    tables = tables_grow schema history txn i;
-    vsns = vsns_grow history txn i;
-    has_batch = λ table batch. batches_grow history txn table batch i;
-    loaded = loaded_grow history txn i;
-    batch_rows = fold_more batch_rows_after (λ _. 0) history txn i;
-    changes = fold_more changes_after (λ _. 0) history txn i }
+  tables = tables_grow schema history txn i;
+  vsns = vsns_grow history txn i;
+  has_batch = λ table batch. batches_grow history txn table batch i;
+  loaded = loaded_grow history txn i;
+  batch_rows = fold_more batch_rows_after (λ _. 0) history txn i;
+  changes = fold_more changes_after (λ _. 0) history txn i;
+}
 
 nothing_added : (n : ℕ) (before after : History) → AddsTxns (take n []) before after → AddsTxns [] before after
 nothing_added zero before after is = is
