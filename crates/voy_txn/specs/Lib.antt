@@ -7,3 +7,4 @@ pub mod History
 pub mod Contents
 pub mod Commits
 pub mod HistoryLaws
+pub mod CleanLaws
