@@ -1,21 +1,29 @@
--- Changes that fit keep tables clean.
-use Rattle.std.specs.Prelude.{◌≡◌, ◌≢◌, ◌↔◌, ℕ, suc, Bool, true, false, ◌&&◌, List, [], ◌∷◌, Option, Some, None, map, refl, ◌==◌, if◌then◌else◌}
+-- Changes that fit keep tables clean, and so do transactions.
+use Rattle.std.specs.Prelude.{◌≡◌, ◌≢◌, ℕ, suc, Bool, true, false, List, [], ◌∷◌, Option, Some, None, map, refl, ◌==◌, slice_get, if◌then◌else◌}
 use Rattle.std.specs.Bool.{Decides}
 use Rattle.std.specs.Cmp.Lexicographic.{bytes_decides, pointwise_decides}
 use Rattle.std.specs.List.{list_all}
 use Rattle.std.proofs.Common.{ap, subst, sym, ◌∙◌}
 use Rattle.std.proofs.lemmas.Bool.{and_from, and_parts, eqb-true, eq-eqb, false≢true}
+use Rattle.voy_schema.specs.Rows.{tuple_of}
 use Rattle.voy_schema.specs.declared.table.Table.{Table}
+use Rattle.voy_schema.specs.declared.table.UniqueKey.{UniqueKey}
 use Rattle.voy_schema.specs.declared.value.Value.{Value}
 use Rattle.voy_tables.specs.Changes.{RowChange, RowId, is_well_formed, row_change}
 use Rattle.voy_tables.specs.Keys.{same_key}
-use Rattle.voy_tables.specs.Laws.{IsDone, ListsAreTables, MisfitIsNoneWhereItFits}
-use Rattle.voy_tables.specs.Lists.{fold_lists, lists_after, look, misfit_of}
+use Rattle.voy_tables.specs.Laws.{EmptyListsHaveNoRows, IsDone, ListsAreTables, MisfitIsNoneWhereItFits}
+use Rattle.voy_tables.specs.Lists.{empty_lists, fold_lists, lists_after, look, misfit_of}
+use Rattle.voy_tables.specs.Standing.{are_tables}
 use Rattle.voy_tables.specs.Tables.{Fits, IsClean, Tables, do_change, same_row_id, tuple_in}
 use Rattle.voy_tables.specs.declared.change.Change.{Change}
 use Rattle.voy_tables.specs.declared.change.Misfit.{Misfit}
 use Rattle.voy_txn.specs.Commits.{AreCleanTables}
-use Rattle.voy_txn.specs.Items.{first_misfit, first_of}
+use Rattle.voy_txn.specs.History.{tables_after}
+use Rattle.voy_txn.specs.Items.{first_misfit, first_of, items_of, violation_of}
+use Rattle.voy_txn.specs.LawfulTxn.{IsLawfulTxn}
+use Rattle.voy_txn.specs.LoadLaws.{items_are_well_formed, load_sets_rows}
+use Rattle.voy_txn.specs.declared.txn.Txn.{Txn}
+use Rattle.voy_txn.specs.declared.txn.Txn.TheVariants.{Load, Batch, Events}
 
 same_key-decides : (a b : List (List ℕ)) → Decides (same_key a b) (a ≡ b)
 unfolding same_key
@@ -49,7 +57,7 @@ change_keeps_clean schema c tables clean fits p q unique values same_table has_p
     new_and_old new old is other same has_new has_old =
         let new_table : new.table ≡ c.row.table = ap (λ (r : RowId). r.table) (here new is) in
         fits.unique old unique values (same ∙ new_table) (elsewhere old other)
-          (subst (λ t. tuple_in schema t unique c.after ≡ Some values) new_table has_new) has_old
+        (subst (λ t. tuple_in schema t unique c.after ≡ Some values) new_table has_new) has_old
 
     by : (bp : Bool) → same_row_id p c.row ≡ bp → (bq : Bool) → same_row_id q c.row ≡ bq
         → tuple_in schema p.table unique (at bp p) ≡ Some values → tuple_in schema q.table unique (at bq q) ≡ Some values → p ≡ q
@@ -86,5 +94,46 @@ changes_keep_clean lists_law misfit_law schema lists at (c ∷ cs) are formed no
 
     next : AreCleanTables schema (lists_after schema (row_change schema c) lists)
     next = record {
-        stand = done.stand;
-        clean = subst (IsClean schema) whole (change_keeps_clean schema (row_change schema c) (look schema lists) are.clean fits) }
+      stand = done.stand;
+      clean = subst (IsClean schema) whole (change_keeps_clean schema (row_change schema c) (look schema lists) are.clean fits);
+    }
+
+-- where there is no row, there is no tuple
+no_tuple : (schema : List Table) (table unique : ℕ) → tuple_in schema table unique None ≡ None
+unfolding tuple_in tuple_of
+no_tuple schema table unique = by (slice_get schema table) refl where
+  by : (found : Option Table) → slice_get schema table ≡ found → tuple_in schema table unique None ≡ None
+  by None is = rw is refl
+  by (Some t) is = rw is (at (slice_get t.unique_keys unique) refl) where
+    at : (key : Option UniqueKey) → slice_get t.unique_keys unique ≡ key → tuple_of t unique None ≡ None
+    at None e = rw e refl
+    at (Some key) e = rw e refl
+
+empty_stand : (schema : List Table) → are_tables schema (empty_lists schema) ≡ true
+empty_stand [] = refl
+empty_stand (t ∷ schema) = empty_stand schema
+
+-- tables with no rows are clean
+pub empty_are_clean : EmptyListsHaveNoRows → (schema : List Table) → AreCleanTables schema (empty_lists schema)
+empty_are_clean no_rows_law schema = record {
+  stand = empty_stand schema;
+  clean = λ p q unique values same has_p has_q. absurd (none_some values (sym (no_tuple schema p.table unique)
+      ∙ ap (tuple_in schema p.table unique) (sym (no_rows_law schema p)) ∙ has_p));
+}
+  where
+    none_some : (values : List Value) → None ≡ Some values → ⊥
+    none_some values e = cc
+
+-- a lawful transaction that fits clean tables leaves them clean
+pub txn_keeps_clean : ListsAreTables → MisfitIsNoneWhereItFits → EmptyListsHaveNoRows
+    → (schema : List Table) (lists : List (List (List Value))) (txn : Txn)
+    → IsLawfulTxn schema txn → AreCleanTables schema lists → violation_of schema lists txn ≡ None
+    → AreCleanTables schema (tables_after schema lists txn)
+txn_keeps_clean lists_law misfit_law no_rows_law schema lists (Load tables) lawful are none =
+    subst (AreCleanTables schema) (load_sets_rows schema tables lawful)
+    (changes_keep_clean lists_law misfit_law schema (empty_lists schema) 0 (items_of (Load tables)) (empty_are_clean no_rows_law schema)
+    (items_are_well_formed schema (Load tables) lawful) none)
+txn_keeps_clean lists_law misfit_law no_rows_law schema lists (Batch table batch rows) lawful are none =
+    changes_keep_clean lists_law misfit_law schema lists 0 (items_of (Batch table batch rows)) are (items_are_well_formed schema (Batch table batch rows) lawful) none
+txn_keeps_clean lists_law misfit_law no_rows_law schema lists (Events channel items) lawful are none =
+    changes_keep_clean lists_law misfit_law schema lists 0 (items_of (Events channel items)) are (items_are_well_formed schema (Events channel items) lawful) none

@@ -8,7 +8,6 @@ use Rattle.std.proofs.lemmas.List.Sums.{fold-append}
 use Rattle.voy_disk.specs.StepLaws.{follows_weaker}
 use Rattle.voy_disk.specs.Steps.{Follows, LeavesPrefix, Same, SomeFirst}
 use Rattle.voy_schema.specs.declared.table.Table.{Table}
-use Rattle.voy_schema.specs.declared.value.Value.{Value}
 use Rattle.voy_tables.specs.declared.change.Misfit.{Misfit}
 use Rattle.voy_txn.specs.Commits.{AddsTxns, if_it_fits, if_none}
 use Rattle.voy_txn.specs.Contents.{Contents, contents_after, contents_of, is_batch}

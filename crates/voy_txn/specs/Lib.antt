@@ -8,3 +8,4 @@ pub mod Contents
 pub mod Commits
 pub mod HistoryLaws
 pub mod CleanLaws
+pub mod LoadLaws
