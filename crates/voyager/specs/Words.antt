@@ -1,5 +1,5 @@
 -- What the words of a command ask for.
-use Rattle.std.specs.Prelude.{ℕ, Bool, List, [], ◌∷◌, ◌&&◌, Option, Some, None, codes, if◌then◌else◌}
+use Rattle.std.specs.Prelude.{◌≡◌, ℕ, Bool, List, [], ◌∷◌, ◌++◌, ◌&&◌, Option, Some, None, codes, if◌then◌else◌}
 use Rattle.std.specs.Str.{bytes_eq}
 use Rattle.voyager.specs.declared.words.Asked.{Asked}
 use Rattle.voyager.specs.declared.words.Asked.TheVariants.{DryRun, NoReading, NoCommand}
@@ -32,3 +32,14 @@ unfoldable pub export_dir : List (List ℕ) → Option (List ℕ)
 export_dir [] = None
 export_dir (option ∷ []) = None
 export_dir (option ∷ folder ∷ rest) = if bytes_eq option (codes "--export-dir") then non_empty folder else None
+
+-- the path of what has this name in a folder
+abbrev pub folder_below : List ℕ → List ℕ → List ℕ
+folder_below folder name = folder ++ (codes "/" ++ name)
+
+-- the four folders of a move
+pub record IsBelow (folder recording export target source : List ℕ) : Type 0 where
+  pub is_recording : recording ≡ folder_below folder (codes "recording")
+  pub is_export : export ≡ folder_below folder (codes "export")
+  pub is_target : target ≡ folder_below folder (codes "target")
+  pub is_source : source ≡ folder_below folder (codes "source")

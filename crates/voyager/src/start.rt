@@ -1,5 +1,6 @@
-ghost use Rattle.std.specs.Prelude.{◌≡◌, map, option_map, string_bytes};
-ghost use Rattle.voyager.specs.Words.{export_dir, non_empty};
+ghost use Rattle.std.specs.Prelude.{◌≡◌, IfOk, map, option_map, string_bytes};
+ghost use Rattle.voy_disk.specs.HostDisk.{host_disk_folder};
+ghost use Rattle.voyager.specs.Words.{IsBelow, export_dir, folder_below, non_empty};
 
 use crate::answer::Answer;
 use crate::command::run;
@@ -62,8 +63,10 @@ fn non_empty(text: &str) -> Option<&str>
     if text.is_empty() { None } else { Some(text) }
 }
 
-/// The four disks below a folder.
-fn place_below(rt: HostRuntime, folder: &str) -> Result<Place<HostDisk<HostRuntime>>, AllocError> {
+/// The four disks below a folder, each a folder of its name.
+fn place_below(rt: HostRuntime, folder: &str) -> Result<Place<HostDisk<HostRuntime>>, AllocError>
+    ensures { IfOk result (λ place. IsBelow folder.now (host_disk_folder place.recording) (host_disk_folder place.export) (host_disk_folder place.target) (host_disk_folder place.source)) }
+{
     let recording = disk_below(rt, folder, "recording")?;
     let export = disk_below(rt, folder, "export")?;
     let target = disk_below(rt, folder, "target")?;
@@ -80,7 +83,9 @@ fn disk_below(
     rt: HostRuntime,
     folder: &str,
     name: &str,
-) -> Result<HostDisk<HostRuntime>, AllocError> {
+) -> Result<HostDisk<HostRuntime>, AllocError>
+    ensures { IfOk result (λ disk. host_disk_folder disk ≡ folder_below folder.now name.now) }
+{
     let path = format!(in rt.alloc(); "{folder}/{name}")?;
     HostDisk::new(rt, rt.alloc(), path.as_str())
 }
