@@ -7,7 +7,7 @@ use Rattle.std.proofs.lemmas.Bool.{and_from, and_parts, ltb-false}
 use Rattle.std.proofs.lemmas.Slice.Eq.{bytes_eq-Decides}
 use Rattle.voy_schema.specs.Lawful.{is_lawful}
 use Rattle.voy_schema.specs.declared.table.Table.{Table}
-use Rattle.voy_event.proofs.ReadBack.{events_read_back}
+use Rattle.voy_event.specs.Laws.{EventsReadBack}
 use Rattle.voy_event.specs.EventLaws.{event_is_lawful}
 use Rattle.voy_event.specs.EventLine.{line_reading, max_event_line_bytes}
 use Rattle.voy_event.specs.LineText.{line_text}
@@ -46,12 +46,12 @@ item_takes schema line item read =
     } in
     subst (λ (x : Event). IsLawfulItem schema x × (line_text schema x ≡ line)) test.1 (made, canonical)
 
-pub item_again : (schema : List Table) (item : Event) → is_lawful schema ≡ true → IsLawfulItem schema item
+pub item_again : EventsReadBack → (schema : List Table) (item : Event) → is_lawful schema ≡ true → IsLawfulItem schema item
     → item_of schema (line_text schema item) ≡ Some item
 unfolding item_of
-item_again schema item lawful has =
+item_again by_lines schema item lawful has =
     let text = line_text schema item in
-    let read : line_reading schema text ≡ Ok item = events_read_back schema item lawful has.event has.short in
+    let read : line_reading schema text ≡ Ok item = by_lines schema item lawful has.event has.short in
     let canonical : bytes_eq text text ≡ true = (bytes_eq-Decides text text).1 refl in
     let both : (is_change item.what && bytes_eq text text) ≡ true = and_from _ _ has.change canonical in
     ap (λ (r : Result Event LineWhy). result_ok r >>= λ (e : Event). cond (is_change e.what && bytes_eq (line_text schema e) text) (Some e) None) read
@@ -96,13 +96,13 @@ items_take schema (suc count) bytes items fit read =
     subst (λ (x : List Event). AllByRecursion (IsLawfulItem schema) x × (length x ≡ suc count) × (bytes ≡ flat_map (item_part schema) x)) same
     ((first.0, rest.0), ap suc rest.1, text)
 
-pub items_again : (schema : List Table) (items : List Event) → is_lawful schema ≡ true → AllByRecursion (IsLawfulItem schema) items
+pub items_again : EventsReadBack → (schema : List Table) (items : List Event) → is_lawful schema ≡ true → AllByRecursion (IsLawfulItem schema) items
     → items_of schema (length items) (flat_map (item_part schema) items) ≡ Some items
 unfolding items_of
-items_again schema [] lawful each = refl
-items_again schema (item ∷ items) lawful each =
+items_again by_lines schema [] lawful each = refl
+items_again by_lines schema (item ∷ items) lawful each =
     let short : length (line_text schema item) < 2 ^ 32 = omega (arith, each.0.short) in
-    rw (sized_again (line_text schema item) (flat_map (item_part schema) items) short, item_again schema item lawful each.0, items_again schema items lawful each.1) refl
+    rw (sized_again (line_text schema item) (flat_map (item_part schema) items) short, item_again by_lines schema item lawful each.0, items_again by_lines schema items lawful each.1) refl
 
 -- ---- by ascending vsn
 
@@ -114,7 +114,7 @@ ascending_take schema count bytes items read =
     let test = passed (ascend_above 0 step.0) step.0 items step.2 in
     (subst (λ (x : List Event). items_of schema count bytes ≡ Some x) test.1 step.1, subst (λ (x : List Event). ascend_above 0 x ≡ true) test.1 test.0)
 
-pub ascending_again : (schema : List Table) (items : List Event) → is_lawful schema ≡ true → AllByRecursion (IsLawfulItem schema) items
+pub ascending_again : EventsReadBack → (schema : List Table) (items : List Event) → is_lawful schema ≡ true → AllByRecursion (IsLawfulItem schema) items
     → ascend_above 0 items ≡ true → ascending_items schema (length items) (flat_map (item_part schema) items) ≡ Some items
 unfolding ascending_items
-ascending_again schema items lawful each up = rw (items_again schema items lawful each, up) refl
+ascending_again by_lines schema items lawful each up = rw (items_again by_lines schema items lawful each, up) refl

@@ -9,6 +9,8 @@ use Rattle.voy_schema.specs.LawfulLaws.{table_count, table_is_lawful, tables_are
 use Rattle.voy_schema.specs.declared.table.Table.{Table}
 use Rattle.voy_schema.specs.declared.value.Value.{Value}
 use Rattle.voy_tables.specs.RowText.{row_lines}
+use Rattle.voy_tables.specs.RowLaws.{RowsReadBack}
+use Rattle.voy_event.specs.Laws.{EventsReadBack}
 use Rattle.voy_event.specs.declared.event.Event.{Event}
 use Rattle.voy_txn.specs.LawfulTxn.{AreLawfulItems, AreLoaded, AreRowsOf, AreWritten, IsLawfulBatch, IsLawfulTxn, IsPayload, max_channels, max_items}
 use Rattle.voy_txn.specs.Laws.{PayloadsReadBack}
@@ -27,15 +29,15 @@ record IsRead (schema : List Table) (kind : ℕ) (fields : List ℕ) (txn : Txn)
 
 -- ---- what was read is a payload
 
-load_takes : (schema : List Table) (fields : List ℕ) (txn : Txn) → is_lawful schema ≡ true → AreBytes fields
+load_takes : RowsReadBack → (schema : List Table) (fields : List ℕ) (txn : Txn) → is_lawful schema ≡ true → AreBytes fields
     → load_of schema fields ≡ Some txn → IsRead schema load_kind fields txn
 unfolding load_of payload_of
-load_takes schema fields txn lawful fit read =
+load_takes by_rows schema fields txn lawful fit read =
     let count = bind_some (number_at fields) (λ count. cond (eqb count.0 (length schema)) (lists_of schema count.1 >>= λ lists. Some (Load lists)) None) txn read in
     let test = chosen (eqb count.0.0 (length schema)) (lists_of schema count.0.1 >>= λ lists. Some (Load lists)) txn count.2 in
     let lists = bind_some (lists_of schema count.0.1) (λ lists. Some (Load lists)) txn test.1 in
     let front = number_takes fields count.0 fit count.1 in
-    let loaded = lists_take schema count.0.1 lists.0 (tables_are_lawful schema lawful) front.0.fit lists.1 in
+    let loaded = lists_take by_rows schema count.0.1 lists.0 (tables_are_lawful schema lawful) front.0.fit lists.1 in
     let many : count.0.0 ≡ length lists.0 = eqb-true _ _ test.0 ∙ sym (loaded_length schema lists.0 loaded.0) in
     let text : fields ≡ number (length lists.0) ++ flat_map rows_part lists.0 =
     front.0.parts ∙ ap (λ n. number n ++ count.0.1) many ∙ ap (λ (x : List ℕ). number (length lists.0) ++ x) loaded.1 in
@@ -48,36 +50,36 @@ load_takes schema fields txn lawful fit read =
     chosen false o x e = absurd cc
 
 -- the rows of a batch's part, and nothing behind them
-batch_rows_take : (t : Table) (bytes : List ℕ) (rows : List (List Value)) → is_lawful_table t ≡ true → AreBytes bytes
+batch_rows_take : RowsReadBack → (t : Table) (bytes : List ℕ) (rows : List (List Value)) → is_lawful_table t ≡ true → AreBytes bytes
     → batch_rows (Some t) bytes ≡ Some rows → (bytes ≡ rows_part rows) × AreWritten t rows × (1 ≤ length rows)
 unfolding batch_rows
-batch_rows_take t bytes rows lawful fit read =
+batch_rows_take by_rows t bytes rows lawful fit read =
     let part = bind_some (part_at bytes) (λ part. counted_rows t part.0 part.1 >>= λ (rows : List (List Value)). cond (leb 1 (length rows) && eqb (length part.2) 0) (Some rows) None) rows read in
     let step = bind_some (counted_rows t part.0.0 part.0.1) (λ (rows : List (List Value)). cond (leb 1 (length rows) && eqb (length part.0.2) 0) (Some rows) None) rows part.2 in
     let test = passed (leb 1 (length step.0) && eqb (length part.0.2) 0) step.0 rows step.2 in
     let parts = and_parts (leb 1 (length step.0)) (eqb (length part.0.2) 0) test.0 in
-    let front = rows_take t bytes part.0 step.0 lawful fit part.1 step.1 in
+    let front = rows_take by_rows t bytes part.0 step.0 lawful fit part.1 step.1 in
     let nothing : part.0.2 ≡ [] = nil_from_length part.0.2 (eqb-true _ _ parts.1) in
     let text : bytes ≡ rows_part step.0 = front.0.parts ∙ ap (λ (x : List ℕ). rows_part step.0 ++ x) nothing ∙ append-nil (rows_part step.0) in
     subst (λ (x : List (List Value)). (bytes ≡ rows_part x) × AreWritten t x × (1 ≤ length x)) test.1 (text, front.1, leb-true _ _ parts.0)
 
 -- the same for the table at a place
-batch_rows_in : (schema : List Table) (place : ℕ) (o : Option Table) (bytes : List ℕ) (rows : List (List Value)) → is_lawful schema ≡ true → AreBytes bytes
+batch_rows_in : RowsReadBack → (schema : List Table) (place : ℕ) (o : Option Table) (bytes : List ℕ) (rows : List (List Value)) → is_lawful schema ≡ true → AreBytes bytes
     → slice_get schema place ≡ o → batch_rows o bytes ≡ Some rows → (bytes ≡ rows_part rows) × AreRowsOf o rows × (1 ≤ length rows)
 unfolding batch_rows
-batch_rows_in schema place None bytes rows lawful fit there read = absurd cc
-batch_rows_in schema place (Some t) bytes rows lawful fit there read = batch_rows_take t bytes rows (table_is_lawful schema place t lawful there) fit read
+batch_rows_in by_rows schema place None bytes rows lawful fit there read = absurd cc
+batch_rows_in by_rows schema place (Some t) bytes rows lawful fit there read = batch_rows_take by_rows t bytes rows (table_is_lawful schema place t lawful there) fit read
 
-batch_takes : (schema : List Table) (fields : List ℕ) (txn : Txn) → is_lawful schema ≡ true → AreBytes fields
+batch_takes : RowsReadBack → (schema : List Table) (fields : List ℕ) (txn : Txn) → is_lawful schema ≡ true → AreBytes fields
     → batch_of schema fields ≡ Some txn → IsRead schema batch_kind fields txn
 unfolding batch_of payload_of
-batch_takes schema fields txn lawful fit read =
+batch_takes by_rows schema fields txn lawful fit read =
     let table = bind_some (number_at fields) (λ table. number_at table.1 >>= λ batch. batch_rows (slice_get schema table.0) batch.1 >>= λ rows. Some (Batch table.0 batch.0 rows)) txn read in
     let batch = bind_some (number_at table.0.1) (λ batch. batch_rows (slice_get schema table.0.0) batch.1 >>= λ rows. Some (Batch table.0.0 batch.0 rows)) txn table.2 in
     let rows = bind_some (batch_rows (slice_get schema table.0.0) batch.0.1) (λ rows. Some (Batch table.0.0 batch.0.0 rows)) txn batch.2 in
     let first = number_takes fields table.0 fit table.1 in
     let second = number_takes table.0.1 batch.0 first.0.fit batch.1 in
-    let third = batch_rows_in schema table.0.0 (slice_get schema table.0.0) batch.0.1 rows.0 lawful second.0.fit refl rows.1 in
+    let third = batch_rows_in by_rows schema table.0.0 (slice_get schema table.0.0) batch.0.1 rows.0 lawful second.0.fit refl rows.1 in
     let text : fields ≡ number table.0.0 ++ (number batch.0.0 ++ rows_part rows.0) =
     first.0.parts ∙ ap (λ (x : List ℕ). number table.0.0 ++ x) (second.0.parts ∙ ap (λ (x : List ℕ). number batch.0.0 ++ x) third.0) in
     let made : IsRead schema batch_kind fields (Batch table.0.0 batch.0.0 rows.0) = record {
@@ -122,11 +124,11 @@ AreBytes-behind : (b : ℕ) (bytes : List ℕ) → AreBytes (b ∷ bytes) → Ar
 AreBytes-behind b bytes fit i = fit (suc i)
 
 -- what was read is the transaction whose payload the bytes are
-pub reading_takes : (schema : List Table) (bytes : List ℕ) (txn : Txn) → is_lawful schema ≡ true → AreBytes bytes
+pub reading_takes : RowsReadBack → (schema : List Table) (bytes : List ℕ) (txn : Txn) → is_lawful schema ≡ true → AreBytes bytes
     → txn_reading schema bytes ≡ Some txn → IsPayload schema bytes txn
 unfolding txn_reading
-reading_takes schema [] txn lawful fit read = absurd cc
-reading_takes schema (kind ∷ fields) txn lawful fit read = by_load (eqb kind load_kind) refl read where
+reading_takes by_rows schema [] txn lawful fit read = absurd cc
+reading_takes by_rows schema (kind ∷ fields) txn lawful fit read = by_load (eqb kind load_kind) refl read where
   rest : AreBytes fields
   rest = AreBytes-behind kind fields fit
 
@@ -139,13 +141,13 @@ reading_takes schema (kind ∷ fields) txn lawful fit read = by_load (eqb kind l
 
   by_batch : (b : Bool) → eqb kind batch_kind ≡ b
       → cond b (batch_of schema fields) (cond (eqb kind events_kind) (events_of schema fields) None) ≡ Some txn → IsPayload schema (kind ∷ fields) txn
-  by_batch true is e = as_payload batch_kind is (batch_takes schema fields txn lawful rest e)
+  by_batch true is e = as_payload batch_kind is (batch_takes by_rows schema fields txn lawful rest e)
   by_batch false is e = by_events (eqb kind events_kind) refl e
 
   by_load : (b : Bool) → eqb kind load_kind ≡ b
       → cond b (load_of schema fields) (cond (eqb kind batch_kind) (batch_of schema fields) (cond (eqb kind events_kind) (events_of schema fields) None)) ≡ Some txn
       → IsPayload schema (kind ∷ fields) txn
-  by_load true is e = as_payload load_kind is (load_takes schema fields txn lawful rest e)
+  by_load true is e = as_payload load_kind is (load_takes by_rows schema fields txn lawful rest e)
   by_load false is e = by_batch (eqb kind batch_kind) refl e
 
 -- ---- a payload is read
@@ -154,38 +156,38 @@ reading_takes schema (kind ∷ fields) txn lawful fit read = by_load (eqb kind l
 pub load_count : (schema : List Table) (lists : List (List (List Value))) → is_lawful schema ≡ true → AreLoaded schema lists → length lists < 2 ^ 32
 load_count schema lists lawful loaded = omega (arith, loaded_length schema lists loaded, (table_count schema lawful).1)
 
-load_again : (schema : List Table) (lists : List (List (List Value))) → is_lawful schema ≡ true → AreLoaded schema lists
+load_again : RowsReadBack → (schema : List Table) (lists : List (List (List Value))) → is_lawful schema ≡ true → AreLoaded schema lists
     → load_of schema (number (length lists) ++ flat_map rows_part lists) ≡ Some (Load lists)
 unfolding load_of
-load_again schema lists lawful loaded =
+load_again by_rows schema lists lawful loaded =
     let many = loaded_length schema lists loaded in
     let fits = load_count schema lists lawful loaded in
     let counted : eqb (length lists) (length schema) ≡ true = grind (arith, many) in
-    rw (number_again (length lists) (flat_map rows_part lists) fits, counted, lists_again schema lists (tables_are_lawful schema lawful) loaded) refl
+    rw (number_again (length lists) (flat_map rows_part lists) fits, counted, lists_again by_rows schema lists (tables_are_lawful schema lawful) loaded) refl
 
-batch_rows_again : (schema : List Table) (place : ℕ) (o : Option Table) (rows : List (List Value)) → is_lawful schema ≡ true → slice_get schema place ≡ o
+batch_rows_again : RowsReadBack → (schema : List Table) (place : ℕ) (o : Option Table) (rows : List (List Value)) → is_lawful schema ≡ true → slice_get schema place ≡ o
     → AreRowsOf o rows → 1 ≤ length rows → (batch_rows o (rows_part rows) ≡ Some rows) × (place < length schema)
 unfolding batch_rows
-batch_rows_again schema place None rows lawful there has some = absurd has
-batch_rows_again schema place (Some t) rows lawful there has some =
+batch_rows_again by_rows schema place None rows lawful there has some = absurd has
+batch_rows_again by_rows schema place (Some t) rows lawful there has some =
     let whole : rows_part rows ≡ rows_part rows ++ [] = sym (append-nil (rows_part rows)) in
     let read : part_at (rows_part rows) ≡ Some (length rows, row_lines rows, []) = ap part_at whole ∙ rows_part_again t rows [] has in
-    let counted = counted_again t rows (table_is_lawful schema place t lawful there) has.each in
+    let counted = counted_again by_rows t rows (table_is_lawful schema place t lawful there) has.each in
     (rw (read, counted, le-leb 1 (length rows) some) refl, slice_get_within schema place t there)
 
-batch_again : (schema : List Table) (table batch : ℕ) (rows : List (List Value)) → is_lawful schema ≡ true → IsLawfulBatch schema table batch rows
+batch_again : RowsReadBack → (schema : List Table) (table batch : ℕ) (rows : List (List Value)) → is_lawful schema ≡ true → IsLawfulBatch schema table batch rows
     → batch_of schema (number table ++ (number batch ++ rows_part rows)) ≡ Some (Batch table batch rows)
 unfolding batch_of
-batch_again schema table batch rows lawful has =
-    let read = batch_rows_again schema table (slice_get schema table) rows lawful refl has.of_table has.some in
+batch_again by_rows schema table batch rows lawful has =
+    let read = batch_rows_again by_rows schema table (slice_get schema table) rows lawful refl has.of_table has.some in
     let few = table_count schema lawful in
     let fits : table < 2 ^ 32 = omega (arith, read.1, few.1) in
     rw (number_again table (number batch ++ rows_part rows) fits, number_again batch (rows_part rows) has.number, read.0) refl
 
-events_again : (schema : List Table) (channel : ℕ) (items : List Event) → is_lawful schema ≡ true → AreLawfulItems schema channel items
+events_again : EventsReadBack → (schema : List Table) (channel : ℕ) (items : List Event) → is_lawful schema ≡ true → AreLawfulItems schema channel items
     → events_of schema (number channel ++ (number (length items) ++ flat_map (item_part schema) items)) ≡ Some (Events channel items)
 unfolding events_of
-events_again schema channel items lawful has =
+events_again by_lines schema channel items lawful has =
     let below : channel < 2 ^ 32 = omega (arith, has.within) in
     let few : length items < 2 ^ 32 = omega (arith, has.most) in
     let text = flat_map (item_part schema) items in
@@ -195,22 +197,22 @@ events_again schema channel items lawful has =
       lt-ltb channel max_channels has.within,
       le-leb 1 (length items) has.some,
       le-leb (length items) max_items has.most,
-      ascending_again schema items lawful has.each has.ascend,
+      ascending_again by_lines schema items lawful has.each has.ascend,
     ) refl
 
 -- the payload of a lawful transaction reads as it
-pub payload_again : (schema : List Table) (txn : Txn) → is_lawful schema ≡ true → IsLawfulTxn schema txn → txn_reading schema (payload_of schema txn) ≡ Some txn
+pub payload_again : RowsReadBack → EventsReadBack → (schema : List Table) (txn : Txn) → is_lawful schema ≡ true → IsLawfulTxn schema txn → txn_reading schema (payload_of schema txn) ≡ Some txn
 unfolding payload_of txn_reading
-payload_again schema (Load lists) lawful has = load_again schema lists lawful has
-payload_again schema (Batch table batch rows) lawful has = batch_again schema table batch rows lawful has
-payload_again schema (Events channel items) lawful has = events_again schema channel items lawful has
+payload_again by_rows by_lines schema (Load lists) lawful has = load_again by_rows schema lists lawful has
+payload_again by_rows by_lines schema (Batch table batch rows) lawful has = batch_again by_rows schema table batch rows lawful has
+payload_again by_rows by_lines schema (Events channel items) lawful has = events_again by_lines schema channel items lawful has
 
 -- bytes that are a payload read as its transaction
-pub reading_again : (schema : List Table) (bytes : List ℕ) (txn : Txn) → is_lawful schema ≡ true → IsPayload schema bytes txn → txn_reading schema bytes ≡ Some txn
-reading_again schema bytes txn lawful is = ap (txn_reading schema) is.text ∙ payload_again schema txn lawful is.lawful
+pub reading_again : RowsReadBack → EventsReadBack → (schema : List Table) (bytes : List ℕ) (txn : Txn) → is_lawful schema ≡ true → IsPayload schema bytes txn → txn_reading schema bytes ≡ Some txn
+reading_again by_rows by_lines schema bytes txn lawful is = ap (txn_reading schema) is.text ∙ payload_again by_rows by_lines schema txn lawful is.lawful
 
-pub one_transaction : PayloadsReadBack
-one_transaction schema bytes a b lawful is_a is_b =
-    let reads_a = reading_again schema bytes a lawful is_a in
-    let reads_b = reading_again schema bytes b lawful is_b in
+pub one_transaction : RowsReadBack → EventsReadBack → PayloadsReadBack
+one_transaction by_rows by_lines schema bytes a b lawful is_a is_b =
+    let reads_a = reading_again by_rows by_lines schema bytes a lawful is_a in
+    let reads_b = reading_again by_rows by_lines schema bytes b lawful is_b in
     cc

@@ -8,9 +8,8 @@ use Rattle.voy_schema.specs.Lawful.{is_lawful_table}
 use Rattle.voy_schema.specs.LawfulLaws.{table_parts}
 use Rattle.voy_schema.specs.declared.table.Table.{Table}
 use Rattle.voy_schema.specs.declared.value.Value.{Value}
-use Rattle.voy_tables.proofs.BackLemmas.{read_exactly_what_is_written}
 use Rattle.voy_tables.specs.Readings.{rows_reading}
-use Rattle.voy_tables.specs.RowLaws.{is_written}
+use Rattle.voy_tables.specs.RowLaws.{RowsReadBack, is_written}
 use Rattle.voy_tables.specs.RowText.{row_lines}
 use Rattle.voy_tables.specs.Standing.{ascends}
 use Rattle.voy_txn.specs.LawfulTxn.{AreLoaded, AreWritten}
@@ -29,31 +28,31 @@ pub record AreRowsIn (t : Table) (count : ℕ) (text : List ℕ) (rows : List (L
   pub each : list_all (is_written t) rows ≡ true
   pub count_is : length rows ≡ count
 
-pub counted_take : (t : Table) (count : ℕ) (text : List ℕ) (rows : List (List Value)) → is_lawful_table t ≡ true
+pub counted_take : RowsReadBack → (t : Table) (count : ℕ) (text : List ℕ) (rows : List (List Value)) → is_lawful_table t ≡ true
     → counted_rows t count text ≡ Some rows → AreRowsIn t count text rows
 unfolding counted_rows
-counted_take t count text rows lawful read =
+counted_take by_rows t count text rows lawful read =
     let step = bind_some (result_ok (rows_reading t text)) (λ (rows : List (List Value)). cond (length rows == count) (Some rows) None) rows read in
     let test = passed (length step.0 == count) step.0 rows step.2 in
-    let exact = (read_exactly_what_is_written t step.0 text (table_parts t lawful).has_columns).0 (ok_from_some _ _ step.1) in
+    let exact = (by_rows t step.0 text (table_parts t lawful).has_columns).0 (ok_from_some _ _ step.1) in
     let made : AreRowsIn t count text step.0 = record { text_is = exact.0; each = exact.1; count_is = eqb-true _ _ test.0 } in
     subst (AreRowsIn t count text) test.1 made
 
-pub counted_again : (t : Table) (rows : List (List Value)) → is_lawful_table t ≡ true → list_all (is_written t) rows ≡ true
+pub counted_again : RowsReadBack → (t : Table) (rows : List (List Value)) → is_lawful_table t ≡ true → list_all (is_written t) rows ≡ true
     → counted_rows t (length rows) (row_lines rows) ≡ Some rows
 unfolding counted_rows
-counted_again t rows lawful each =
-    let read : rows_reading t (row_lines rows) ≡ Ok rows = (read_exactly_what_is_written t rows (row_lines rows) (table_parts t lawful).has_columns).1 (refl, each) in
+counted_again by_rows t rows lawful each =
+    let read : rows_reading t (row_lines rows) ≡ Ok rows = (by_rows t rows (row_lines rows) (table_parts t lawful).has_columns).1 (refl, each) in
     let counted : (length rows == length rows) ≡ true = grind arith in
     rw (read, counted) refl
 
 -- the part of a table's rows
-pub rows_take : (t : Table) (bytes : List ℕ) (part : ℕ × List ℕ × List ℕ) (rows : List (List Value)) → is_lawful_table t ≡ true → AreBytes bytes
+pub rows_take : RowsReadBack → (t : Table) (bytes : List ℕ) (part : ℕ × List ℕ × List ℕ) (rows : List (List Value)) → is_lawful_table t ≡ true → AreBytes bytes
     → part_at bytes ≡ Some part → counted_rows t part.0 part.1 ≡ Some rows → Takes bytes (rows_part rows) part.2 × AreWritten t rows
 unfolding rows_part
-rows_take t bytes part rows lawful fit read counted =
+rows_take by_rows t bytes part rows lawful fit read counted =
     let front = part_takes bytes part fit read in
-    let are = counted_take t part.0 part.1 rows lawful counted in
+    let are = counted_take by_rows t part.0 part.1 rows lawful counted in
     let by_count : Takes bytes (number (length rows) ++ sized part.1) part.2 =
     subst (λ n. Takes bytes (number n ++ sized part.1) part.2) (sym are.count_is) front.0 in
     let text : Takes bytes (number (length rows) ++ sized (row_lines rows)) part.2 =
@@ -78,41 +77,41 @@ sorted_parts t count text rows read =
     let test = passed (ascends t step.0) step.0 rows step.2 in
     (subst (λ (x : List (List Value)). counted_rows t count text ≡ Some x) test.1 step.1, subst (λ (x : List (List Value)). ascends t x ≡ true) test.1 test.0)
 
-sorted_again : (t : Table) (rows : List (List Value)) → is_lawful_table t ≡ true → AreWritten t rows → ascends t rows ≡ true
+sorted_again : RowsReadBack → (t : Table) (rows : List (List Value)) → is_lawful_table t ≡ true → AreWritten t rows → ascends t rows ≡ true
     → sorted_rows t (length rows) (row_lines rows) ≡ Some rows
 unfolding sorted_rows
-sorted_again t rows lawful written up = rw (counted_again t rows lawful written.each, up) refl
+sorted_again by_rows t rows lawful written up = rw (counted_again by_rows t rows lawful written.each, up) refl
 
 -- ---- the rows of all tables
 
-pub lists_take : (schema : List Table) (bytes : List ℕ) (lists : List (List (List Value))) → list_all is_lawful_table schema ≡ true → AreBytes bytes
+pub lists_take : RowsReadBack → (schema : List Table) (bytes : List ℕ) (lists : List (List (List Value))) → list_all is_lawful_table schema ≡ true → AreBytes bytes
     → lists_of schema bytes ≡ Some lists → AreLoaded schema lists × (bytes ≡ flat_map rows_part lists)
 unfolding lists_of
-lists_take [] [] lists lawful fit read =
+lists_take by_rows [] [] lists lawful fit read =
     let same : ◌≡◌ {A = List (List (List Value))} [] lists = cc in
     subst (λ (x : List (List (List Value))). AreLoaded [] x × ([] ≡ flat_map rows_part x)) same (tt, refl)
-lists_take [] (b ∷ bytes) lists lawful fit read = absurd cc
-lists_take (t ∷ schema) bytes lists lawful fit read =
+lists_take by_rows [] (b ∷ bytes) lists lawful fit read = absurd cc
+lists_take by_rows (t ∷ schema) bytes lists lawful fit read =
     let lawful_parts = and_parts _ _ lawful in
     let part = bind_some (part_at bytes) (λ part. sorted_rows t part.0 part.1 >>= λ rows. lists_of schema part.2 >>= λ more. Some (rows ∷ more)) lists read in
     let rows = bind_some (sorted_rows t part.0.0 part.0.1) (λ rows. lists_of schema part.0.2 >>= λ more. Some (rows ∷ more)) lists part.2 in
     let more = bind_some (lists_of schema part.0.2) (λ more. Some (rows.0 ∷ more)) lists rows.2 in
     let sorted = sorted_parts t part.0.0 part.0.1 rows.0 rows.1 in
-    let front = rows_take t bytes part.0 rows.0 lawful_parts.0 fit part.1 sorted.0 in
-    let rest = lists_take schema part.0.2 more.0 lawful_parts.1 front.0.fit more.1 in
+    let front = rows_take by_rows t bytes part.0 rows.0 lawful_parts.0 fit part.1 sorted.0 in
+    let rest = lists_take by_rows schema part.0.2 more.0 lawful_parts.1 front.0.fit more.1 in
     let text : bytes ≡ rows_part rows.0 ++ flat_map rows_part more.0 = front.0.parts ∙ ap (λ (x : List ℕ). rows_part rows.0 ++ x) rest.1 in
     let same : rows.0 ∷ more.0 ≡ lists = cc in
     subst (λ (x : List (List (List Value))). AreLoaded (t ∷ schema) x × (bytes ≡ flat_map rows_part x)) same ((front.1, sorted.1, rest.0), text)
 
-pub lists_again : (schema : List Table) (lists : List (List (List Value))) → list_all is_lawful_table schema ≡ true → AreLoaded schema lists
+pub lists_again : RowsReadBack → (schema : List Table) (lists : List (List (List Value))) → list_all is_lawful_table schema ≡ true → AreLoaded schema lists
     → lists_of schema (flat_map rows_part lists) ≡ Some lists
 unfolding lists_of
-lists_again [] [] lawful loaded = refl
-lists_again [] (rows ∷ lists) lawful loaded = absurd loaded
-lists_again (t ∷ schema) [] lawful loaded = absurd loaded
-lists_again (t ∷ schema) (rows ∷ lists) lawful loaded =
+lists_again by_rows [] [] lawful loaded = refl
+lists_again by_rows [] (rows ∷ lists) lawful loaded = absurd loaded
+lists_again by_rows (t ∷ schema) [] lawful loaded = absurd loaded
+lists_again by_rows (t ∷ schema) (rows ∷ lists) lawful loaded =
     let lawful_parts = and_parts _ _ lawful in
-    rw (rows_part_again t rows (flat_map rows_part lists) loaded.0, sorted_again t rows lawful_parts.0 loaded.0 loaded.1, lists_again schema lists lawful_parts.1 loaded.2) refl
+    rw (rows_part_again t rows (flat_map rows_part lists) loaded.0, sorted_again by_rows t rows lawful_parts.0 loaded.0 loaded.1, lists_again by_rows schema lists lawful_parts.1 loaded.2) refl
 
 -- a load has as many lists as the schema has tables
 pub loaded_length : (schema : List Table) (lists : List (List (List Value))) → AreLoaded schema lists → length lists ≡ length schema

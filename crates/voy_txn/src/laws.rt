@@ -1,8 +1,14 @@
 ghost use Rattle.voy_txn.specs.Laws.{PayloadsReadBack};
 
+use voy_event::events_read_back;
+use voy_tables::rows_read_back;
+
 /// Law: bytes are the payload of one transaction at most, for every schema. So what
 /// [`read_txn`](crate::read_txn) gives of a payload that was written is the transaction that it was
 /// written of. There is nothing to run.
 pub fn payloads_read_back()
     ensures { PayloadsReadBack }
-{}
+{
+    rows_read_back();
+    events_read_back();
+}

@@ -10,7 +10,9 @@ use crate::rows::{batch_rows, lists_of};
 use crate::txn::Txn;
 use crate::unread::Unread;
 use std::alloc::{AllocError, Global};
+use voy_event::events_read_back;
 use voy_schema::Schema;
+use voy_tables::rows_read_back;
 
 /// The transaction whose payload `bytes` are, all of them. `None` where they are no payload of a
 /// transaction that is lawful for the schema.
@@ -18,6 +20,9 @@ pub fn read_txn(alloc: Global, schema: &Schema, bytes: &[u8]) -> Result<Option<T
     ensures some { IfOk result (λ read. IfSome read (IsPayload schema.now.tables bytes.now)) }
     ensures none { IfOk result (λ read. IfNone read ((txn : Transaction) → ¬ IsPayload schema.now.tables bytes.now txn)) }
 {
+    // The laws that the clauses rest on; there is nothing to run.
+    rows_read_back();
+    events_read_back();
     match txn_of(alloc, schema, bytes) {
         Ok(txn) => Ok(Some(txn)),
         Err(Unread::NoPayload) => Ok(None),
