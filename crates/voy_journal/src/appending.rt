@@ -17,7 +17,7 @@ use std::alloc::{AllocError, Global};
 use voy_disk::{Disk, DiskError, Name};
 
 impl Journal {
-    /// Puts a payload behind the others. After Ok every image has the old payloads and this one.
+    /// Puts a payload behind the others. Once it answers Ok, no stop can lose it.
     ///
     /// `TooLong` comes exactly for a payload of more than [`MAX_PAYLOAD_BYTES`] bytes, and nothing changed.
     /// After `Fault` the journal is not live, and each image has the old payloads, or these and the new

@@ -56,7 +56,7 @@ pub trait Store {
 
     /// Takes a transaction: its rows and its mark, or its rows and its marker, go in together.
     ///
-    /// A load replaces all rows, and leaves marks and batches. `Violation` has the first item that does
+    /// A load puts its rows in place of all that stand; channels and batches go on as they are. `Violation` has the first item that does
     /// not fit the tables with the items before it done: the items of a load are its rows, table by table, into
     /// empty tables; those of a batch its rows; those of events their changes. After `Violation` nothing changed.
     /// After `Fault` the store is not live, and a stop leaves the old history, or it and this
