@@ -21,6 +21,7 @@ mod lawful;
 mod limits;
 mod names;
 mod numbers;
+mod ordering;
 mod reading;
 mod rows;
 mod rules;

@@ -8,6 +8,7 @@ use crate::text::Text;
 use crate::value::{Row, Value};
 use crate::why::{SchemaError, SchemaWhy};
 use std::alloc::{AllocError, Global};
+use std::cmp::Ordering;
 use std::test::Fail;
 
 // tables of cases stand behind functions, so that the proofs of the loops do not carry them
@@ -481,6 +482,44 @@ fn row_of(alloc: Global, values: &[Option<&str>]) -> Result<Row, AllocError> {
         row.push(value)?;
     }
     Ok(row)
+}
+
+#[test]
+fn rows_are_ordered_value_by_value_with_null_in_front(rt: HostRuntime) -> Result<(), Fail> {
+    // each list stands before the next one
+    assert_eq!(rt; ordering(rt.alloc(), &[], &[None])?, Ordering::Less);
+    assert_eq!(rt; ordering(rt.alloc(), &[None], &[Some("")])?, Ordering::Less);
+    assert_eq!(rt;
+        ordering(rt.alloc(), &[Some("")], &[Some("10")])?,
+        Ordering::Less
+    );
+    assert_eq!(rt;
+        ordering(rt.alloc(), &[Some("10")], &[Some("10"), None])?,
+        Ordering::Less
+    );
+    assert_eq!(rt;
+        ordering(rt.alloc(), &[Some("10"), None], &[Some("9")])?,
+        Ordering::Less
+    );
+    assert_eq!(rt;
+        ordering(rt.alloc(), &[Some("9")], &[Some("é")])?,
+        Ordering::Less
+    );
+    assert_eq!(rt;
+        ordering(rt.alloc(), &[Some("é")], &[Some("9")])?,
+        Ordering::Greater
+    );
+    assert_eq!(rt;
+        ordering(rt.alloc(), &[Some("a"), None], &[Some("a"), None])?,
+        Ordering::Equal
+    );
+    Ok(())
+}
+
+fn ordering(alloc: Global, a: &[Option<&str>], b: &[Option<&str>]) -> Result<Ordering, AllocError> {
+    let a = row_of(alloc, a)?;
+    let b = row_of(alloc, b)?;
+    Ok(a.cmp(&b))
 }
 
 #[test]

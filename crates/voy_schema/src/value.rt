@@ -3,8 +3,9 @@ use crate::items::Items;
 use crate::text::Text;
 use std::alloc::AllocError;
 
-/// What a row has in a column: NULL, or a text in the form that the column's kind asks for.
-#[derive(Debug, Drop)]
+/// What a row has in a column: NULL, or a text in the form that the column's kind asks for. NULL comes
+/// before all texts.
+#[derive(Debug, PartialEq, Eq, PartialOrd, Ord, Drop)]
 pub enum Value {
     Null,
     Text(Text),
