@@ -27,7 +27,8 @@ pub fn table_text(
     }
 }
 
-fn append_table(
+/// Appends the line and the rows; after an error a part of them.
+pub(crate) fn append_table(
     alloc: Global,
     table: &Table,
     rows: &[Row],

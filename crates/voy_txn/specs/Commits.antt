@@ -1,5 +1,5 @@
 -- What a store asks of a transaction, and what it answers and keeps.
-use Rattle.std.specs.Prelude.{◌≡◌, ◌⊎◌, ℕ, ◌++◌, Bool, true, false, List, [], ◌∷◌, Option, Some, None}
+use Rattle.std.specs.Prelude.{◌≡◌, ◌⊎◌, ℕ, ◌++◌, Bool, true, false, List, [], ◌∷◌, Option, Some, None, not}
 use Rattle.voy_schema.specs.declared.table.Table.{Table}
 use Rattle.voy_schema.specs.declared.value.Value.{Value}
 use Rattle.voy_tables.specs.Lists.{look}
@@ -19,11 +19,11 @@ use Rattle.voy_txn.specs.declared.txn.Txn.TheVariants.{Load, Batch, Events}
 abbrev pub max_payload_bytes : ℕ
 max_payload_bytes = 1073741824
 
--- the one load, a batch that has no marker, or events whose vsns ascend from above that of their channel
-abbrev pub IsNext : Contents → Txn → Type 0
-IsNext contents (Load tables) = contents.loaded ≡ false
-IsNext contents (Batch table batch rows) = contents.has_batch table batch ≡ false
-IsNext contents (Events channel items) = ascend_above (contents.vsns channel) items ≡ true
+-- a store that knows this may take the one load, a batch that has no marker, or events whose vsns ascend from above that of their channel
+abbrev pub is_next : Contents → Txn → Bool
+is_next contents (Load tables) = not contents.loaded
+is_next contents (Batch table batch rows) = not (contents.has_batch table batch)
+is_next contents (Events channel items) = ascend_above (contents.vsns channel) items
 
 -- the transaction where its items fit, one after the other; nothing where they do not
 abbrev pub if_none : Option (ℕ × Misfit) → Txn → List Txn

@@ -31,7 +31,7 @@ mod unread;
 mod writing;
 
 pub use counts::Counts;
-pub use laws::payloads_read_back;
+pub use laws::{payloads_have_readings, payloads_read_back};
 pub use limits::{MAX_CHANNELS, MAX_TXN_ITEMS};
 pub use reading::read_txn;
 pub use store::Store;

@@ -1,4 +1,4 @@
-ghost use Rattle.std.specs.Prelude.{IfNone, IfOk, IfSome};
+ghost use Rattle.std.specs.Prelude.{◌≡◌, IfNone, IfOk, IfSome};
 ghost use Rattle.voy_txn.specs.LawfulTxn.{IsPayload};
 ghost use Rattle.voy_txn.specs.Reading.{Gives, batch_of, events_of, load_of, txn_reading};
 ghost use Rattle.voy_txn.specs.declared.txn.Txn.{Txn as Transaction};
@@ -19,6 +19,7 @@ use voy_tables::rows_read_back;
 pub fn read_txn(alloc: Global, schema: &Schema, bytes: &[u8]) -> Result<Option<Txn>, AllocError>
     ensures some { IfOk result (λ read. IfSome read (IsPayload schema.now.tables bytes.now)) }
     ensures none { IfOk result (λ read. IfNone read ((txn : Transaction) → ¬ IsPayload schema.now.tables bytes.now txn)) }
+    ensures reading { IfOk result (λ read. txn_reading schema.now.tables bytes.now ≡ read) }
 {
     // The laws that the clauses rest on; there is nothing to run.
     rows_read_back();

@@ -5,7 +5,7 @@ ghost use Rattle.voy_disk.specs.Faults.{HasCause};
 ghost use Rattle.voy_disk.specs.Steps.{DoesAll, Follows, LeavesPrefix, Same, StaysTold};
 ghost use Rattle.voy_schema.specs.declared.table.Table.{Table};
 ghost use Rattle.voy_tables.specs.Lists.{look, rows_in};
-ghost use Rattle.voy_txn.specs.Commits.{AddsTxns, AreCleanTables, HasReason, IsNext, IsOneHistory, LeavesStore, if_it_fits, max_payload_bytes, with_txn};
+ghost use Rattle.voy_txn.specs.Commits.{AddsTxns, AreCleanTables, HasReason, IsOneHistory, LeavesStore, if_it_fits, is_next, max_payload_bytes, with_txn};
 ghost use Rattle.voy_txn.specs.Contents.{Contents, contents_after, contents_of, counts_of};
 ghost use Rattle.voy_txn.specs.History.{History};
 ghost use Rattle.voy_txn.specs.Items.{violation_of};
@@ -66,7 +66,7 @@ pub trait Store {
         requires stands { stands self.old }
         requires lawful { IsLawfulTxn (schema self.old) txn.now }
         requires short { length (payload_of (schema self.old) txn.now) ≤ max_payload_bytes }
-        requires next { IsNext (contents self.old) txn.now }
+        requires next { is_next (contents self.old) txn.now ≡ true }
         ensures schema { schema self.new ≡ schema self.old }
         ensures live { OnOk result (is_live self.new ≡ true) }
         ensures stands { OnOk result (stands self.new) }

@@ -1,15 +1,15 @@
 -- What the parts of a dry run make of its answer and of its output.
-use Rattle.std.proofs.Common.{◌≡◌, ℕ, Bool, true, false, ◌||◌, List, [], Option, Some, None, refl, sym, ap, inl, inr, ◌⊎◌, add-zero, append-nil, subst, arith, is_some}
+use Rattle.std.proofs.Common.{◌≡◌, ℕ, Bool, true, false, ◌||◌, List, [], Option, Some, None, refl, sym, ap, inl, inr, add-zero, append-nil, subst, arith, is_some}
 use Rattle.voy_disk.specs.File.{File}
 use Rattle.voy_disk.specs.Files.{Files, bytes_now}
 use Rattle.voy_disk.specs.Written.{GotFront, grown}
-use Rattle.voyager.specs.Answered.{ComesFrom, IsPrinted, StopsDryRun, WithOutcome}
+use Rattle.voyager.specs.DryRunAnswered.{ComesFrom, IsPrinted, StopsDryRun, WithOutcome}
 use Rattle.voyager.specs.DryRun.{Outcome, refusing, shown}
 use Rattle.voyager.specs.Files.{file_bytes}
 use Rattle.voyager.specs.Folding.{outcome_from}
 use Rattle.voyager.specs.Stops.{is_refusal}
 use Rattle.voyager.specs.declared.answer.Answer.{Answer}
-use Rattle.voyager.specs.declared.answer.Answer.TheVariants.{Done, Waiting, NoCommand, NoReading, Fault, NoMemory, Invalid, Refused, OutputFault, TooLong, NotBuilt}
+use Rattle.voyager.specs.declared.answer.Answer.TheVariants.{Done, Waiting, Shown, NoCommand, NoReading, Fault, NoMemory, Damaged, Invalid, Refused, OutputFault, TooLong, NotBuilt}
 use Rattle.voyager.specs.declared.fold.Fold.{Fold}
 
 grown-nothing : (w : Option (List ℕ)) → w ≡ grown w []
@@ -24,10 +24,12 @@ front_nothing text w = record { count = 0; within = omega arith; is = grown-noth
 refusal_printed : (e r : Option Files) (w : Option (List ℕ)) (a : Answer) → is_refusal a ≡ true → IsPrinted e r w w a
 refusal_printed e r w Done h = cc
 refusal_printed e r w Waiting h = cc
+refusal_printed e r w Shown h = refl
 refusal_printed e r w NoCommand h = refl
-refusal_printed e r w NoReading h = refl
+refusal_printed e r w (NoReading phrase) h = refl
 refusal_printed e r w (Fault disk) h = refl
 refusal_printed e r w NoMemory h = cc
+refusal_printed e r w (Damaged side offset) h = refl
 refusal_printed e r w (Invalid vsn) h = refl
 refusal_printed e r w (Refused cause) h = refl
 refusal_printed e r w OutputFault h = cc
@@ -47,10 +49,12 @@ refusal_comes : (e r : Option Files) (export_rose recording_rose out_rose : Type
     → is_refusal a ≡ true → WithOutcome e r (λ o. o ≡ refusing a) → ComesFrom e r export_rose recording_rose out_rose a
 refusal_comes e r er rr out Done h o = cc
 refusal_comes e r er rr out Waiting h o = cc
+refusal_comes e r er rr out Shown h o = cc
 refusal_comes e r er rr out NoCommand h o = cc
-refusal_comes e r er rr out NoReading h o = cc
+refusal_comes e r er rr out (NoReading phrase) h o = cc
 refusal_comes e r er rr out (Fault disk) h o = cc
 refusal_comes e r er rr out NoMemory h o = tt
+refusal_comes e r er rr out (Damaged side offset) h o = cc
 refusal_comes e r er rr out (Invalid vsn) h o = λ x is_x. λ y is_y. ap (λ (z : Outcome). z.answer) (o x is_x y is_y)
 refusal_comes e r er rr out (Refused cause) h o = λ x is_x. λ y is_y. ap (λ (z : Outcome). z.answer) (o x is_x y is_y)
 refusal_comes e r er rr out OutputFault h o = cc
@@ -76,10 +80,3 @@ ends f = rw (add-zero f.last, or_false f.ended) refl
 pub file_there : (file : Option File) (bytes : List ℕ) → true ≡ is_some file → bytes ≡ bytes_now file → file_bytes file ≡ Some bytes
 file_there None bytes there is = cc
 file_there (Some f) bytes there is = ap Some (sym is)
-
--- a stop that no disk caused
-pub memory_or_refusal : (a : Answer) (failed refuses given given' : Type 0) → (given → given')
-    → (a ≡ NoMemory) ⊎ (((a ≡ NoMemory) × ⊥) ⊎ (refuses × given)) → (a ≡ NoMemory) ⊎ (failed ⊎ (refuses × given'))
-memory_or_refusal a failed refuses given given' f (inl memory) = inl memory
-memory_or_refusal a failed refuses given given' f (inr (inl never)) = absurd never.1
-memory_or_refusal a failed refuses given given' f (inr (inr refused)) = inr (inr (refused.0, f refused.1))

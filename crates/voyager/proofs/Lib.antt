@@ -3,3 +3,4 @@ pub mod SegmentLaws
 pub mod DryRunLaws
 pub mod ValidLaws
 pub mod TextLaws
+pub mod ShowLaws

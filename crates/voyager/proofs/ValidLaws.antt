@@ -1,6 +1,6 @@
 -- A valid stream is folded to its end, and no other one is.
 use Rattle.std.proofs.Common.{◌≡◌, ◌↔◌, ◌⊎◌, ◌++◌, ℕ, ◌+◌, Bool, true, false, List, [], ◌∷◌, Option, Some, None, Result, Ok, Err, is_some, refl, sym, ap, ◌∙◌, inl, inr, subst}
-use Rattle.std.specs.Prelude.{if◌then◌else◌, is_ok, option_map, slice_get}
+use Rattle.std.specs.Prelude.{if◌then◌else◌, is_ok, slice_get}
 use Rattle.std.specs.List.{list_any}
 use Rattle.voy_disk.specs.Files.{Files}
 use Rattle.voy_event.specs.EventLaws.{event_is_lawful}
@@ -10,7 +10,6 @@ use Rattle.voy_event.specs.declared.event.Event.{Event}
 use Rattle.voy_event.specs.declared.event.What.{What}
 use Rattle.voy_event.specs.declared.event.What.TheVariants as what
 use Rattle.voy_event.specs.declared.line_error.LineWhy.{LineWhy}
-use Rattle.voy_schema.specs.Reading.{schema_reading}
 use Rattle.voy_schema.specs.Rows.{tuple_of}
 use Rattle.voy_schema.specs.declared.table.Table.{Table}
 use Rattle.voy_schema.specs.declared.table.UniqueKey.{UniqueKey}
@@ -22,15 +21,15 @@ use Rattle.voy_tables.specs.Standing.{are_tables}
 use Rattle.voy_tables.specs.Tables.{FitInTurn, IsClean, do_change, no_rows, tuple_in}
 use Rattle.voy_tables.specs.declared.change.Change.{Change}
 use Rattle.voy_tables.specs.declared.change.Misfit.{Misfit}
-use Rattle.voyager.specs.Answered.{ComesFrom}
-use Rattle.voyager.specs.DryRun.{end_answer, outcome_of, outcome_of_lines, with_fold, with_rest}
+use Rattle.voyager.specs.DryRunAnswered.{ComesFrom}
+use Rattle.voyager.specs.DryRun.{end_answer, outcome_of_lines, with_fold, with_rest}
 use Rattle.voyager.specs.Files.{dry_run_outcome, file_bytes, schema_name, segment_name}
 use Rattle.voyager.specs.Segment.{Queue, add_event, as_next, event_lines, event_misfit, folded, is_cutover, lists_with, queue_of}
 use Rattle.voyager.specs.Stops.{is_refusal}
 use Rattle.voyager.specs.Valid.{FoldsWhereValid, IsComplete, IsValidInput, ValidStreamsFold, changes_in, changes_of, reaches_cutover, segment_queue}
 use Rattle.voyager.specs.declared.answer.Answer.{Answer}
-use Rattle.voyager.specs.declared.answer.Answer.TheVariants.{Done, Waiting, NoCommand, NoReading, Fault, NoMemory, Invalid, Refused, OutputFault, TooLong, NotBuilt}
-use Rattle.voyager.specs.declared.answer.Which.TheVariants.{Recording, Export}
+use Rattle.voyager.specs.declared.answer.Answer.TheVariants.{Done, Waiting, Shown, NoCommand, NoReading, Fault, NoMemory, Damaged, Invalid, Refused, OutputFault, TooLong, NotBuilt}
+use Rattle.voyager.specs.declared.answer.Which.TheVariants.{Recording, Export, Target, Source}
 use Rattle.voyager.proofs.FoldingLaws.{chosen, is_refusal-line_refusal}
 
 -- ---- no rows
@@ -150,19 +149,14 @@ segments_fold done fit empty schema segment =
     }
 
 pub valid_streams_fold : ListsAreTables → MisfitIsNoneWhereItFits → EmptyListsHaveNoRows → ValidStreamsFold
-valid_streams_fold done fit empty bytes schema segment readable = rw readable (segments_fold done fit empty schema segment)
+valid_streams_fold done fit empty file schema segment readable = rw readable (segments_fold done fit empty schema segment)
 
 -- ---- what a dry run owes for a valid stream
 
 outcome_ends : ValidStreamsFold → (export recording : Files) (schema : List Table) → IsValidInput export recording schema
     → (dry_run_outcome export recording).answer ≡ end_answer (reaches_cutover schema (file_bytes (export segment_name)))
-outcome_ends law export recording schema input = rw input.no_metadata (by_schema (file_bytes (recording schema_name)) input.readable) where
-  by_schema : (file : Option (List ℕ)) → option_map schema_reading file ≡ Some (Ok schema)
-      → (outcome_of file (file_bytes (export segment_name))).answer ≡ end_answer (reaches_cutover schema (file_bytes (export segment_name)))
-  by_schema None readable = cc
-  by_schema (Some bytes) readable =
-      let reads : schema_reading bytes ≡ Ok schema = cc in
-      (law bytes schema (file_bytes (export segment_name)) reads).ends input.valid
+outcome_ends law export recording schema input =
+    rw input.no_metadata ((law (file_bytes (recording schema_name)) schema (file_bytes (export segment_name)) input.readable).ends input.valid)
 
 -- the causes of an answer leave only those that are owed
 pub completes : ValidStreamsFold → (export recording : Option Files) (export_rose recording_rose out_rose : Type 0) (a : Answer)
@@ -174,11 +168,15 @@ completes law export recording er rr or a comes = λ e is_e. λ r is_r. λ schem
         → (dry_run_outcome e r).answer ≡ owed → (a : Answer) → ComesFrom export recording er rr or a → (a ≡ NoMemory) ⊎ (a ≡ owed)
     by_answer e is_e r is_r no_export no_recording no_out is Done comes = inr (sym (comes e is_e r is_r) ∙ is)
     by_answer e is_e r is_r no_export no_recording no_out is Waiting comes = inr (sym (comes e is_e r is_r) ∙ is)
+    by_answer e is_e r is_r no_export no_recording no_out is Shown comes = absurd comes
     by_answer e is_e r is_r no_export no_recording no_out is NoCommand comes = absurd comes
-    by_answer e is_e r is_r no_export no_recording no_out is NoReading comes = absurd comes
+    by_answer e is_e r is_r no_export no_recording no_out is (NoReading phrase) comes = absurd comes
     by_answer e is_e r is_r no_export no_recording no_out is (Fault Recording) comes = absurd (no_recording comes)
     by_answer e is_e r is_r no_export no_recording no_out is (Fault Export) comes = absurd (no_export comes)
+    by_answer e is_e r is_r no_export no_recording no_out is (Fault Target) comes = absurd comes
+    by_answer e is_e r is_r no_export no_recording no_out is (Fault Source) comes = absurd comes
     by_answer e is_e r is_r no_export no_recording no_out is NoMemory comes = inl refl
+    by_answer e is_e r is_r no_export no_recording no_out is (Damaged side offset) comes = absurd comes
     by_answer e is_e r is_r no_export no_recording no_out is (Invalid vsn) comes = inr (sym (comes e is_e r is_r) ∙ is)
     by_answer e is_e r is_r no_export no_recording no_out is (Refused cause) comes = inr (sym (comes e is_e r is_r) ∙ is)
     by_answer e is_e r is_r no_export no_recording no_out is OutputFault comes = absurd (no_out comes.0)

@@ -1,63 +1,16 @@
--- What stands behind each answer of a command: when it comes, and what was printed.
-use Rattle.std.specs.Prelude.{◌≡◌, ◌⊎◌, ℕ, true, false, List, Option}
-use Rattle.voy_disk.specs.Faults.{Rose}
-use Rattle.voy_disk.specs.Files.{Files, IfTold}
-use Rattle.voy_disk.specs.Written.{GotFront, grown}
+-- What stands behind each answer of a command: when it comes, what was printed, and what changed.
+use Rattle.std.specs.Prelude.{◌≡◌, ℕ, List, Option}
+use Rattle.voy_disk.specs.Files.{Files}
+use Rattle.voy_disk.specs.Written.{GotFront}
 use Rattle.voy_disk.specs.declared.place.Place.{Place}
 use Rattle.voyager.specs.Answer.{status_of, text_on_err}
-use Rattle.voyager.specs.DryRun.{Outcome, refusing}
-use Rattle.voyager.specs.Files.{dry_run_outcome}
-use Rattle.voyager.specs.Stops.{is_refusal}
-use Rattle.voyager.specs.Valid.{IsComplete}
+use Rattle.voyager.specs.DryRunAnswered.{IsDryRun}
+use Rattle.voyager.specs.Show.{IsShow}
 use Rattle.voyager.specs.Words.{asked_by}
 use Rattle.voyager.specs.declared.answer.Answer.{Answer}
-use Rattle.voyager.specs.declared.answer.Answer.TheVariants.{Done, Waiting, NoCommand, NoReading, Fault, NoMemory, Invalid, Refused, OutputFault, TooLong, NotBuilt}
-use Rattle.voyager.specs.declared.answer.Which.TheVariants.{Recording, Export}
+use Rattle.voyager.specs.declared.answer.Answer.TheVariants.{NoCommand, NoReading}
 use Rattle.voyager.specs.declared.words.Asked.{Asked}
 use Rattle.voyager.specs.declared.words.Asked.TheVariants as asked
-
--- a fact on the outcome that the files of the export and of the recording give, where both disks tell them
-abbrev pub WithOutcome : Option Files → Option Files → (Outcome → Type 0) → Type 0
-WithOutcome export recording P = IfTold export (λ e. IfTold recording (λ r. P (dry_run_outcome e r)))
-
--- the dry run could not fold the recording: memory was not found, a disk failed, or the files give this refusal
-abbrev pub StopsDryRun : Option Files → Option Files → Type 0 → Type 0 → Answer → Type 0
-StopsDryRun export recording export_rose recording_rose a =
-    (a ≡ NoMemory)
-    ⊎ (((a ≡ Fault Export) × export_rose)
-    ⊎ (((a ≡ Fault Recording) × recording_rose)
-    ⊎ ((is_refusal a ≡ true) × WithOutcome export recording (λ o. o ≡ refusing a))))
-
--- when a dry run gives each answer: a fault only where that count rose, want of memory at any time, and
--- every other answer only where it is that of the outcome
-abbrev pub ComesFrom : Option Files → Option Files → Type 0 → Type 0 → Type 0 → Answer → Type 0
-ComesFrom export recording export_rose recording_rose out_rose Done = WithOutcome export recording (λ o. o.answer ≡ Done)
-ComesFrom export recording export_rose recording_rose out_rose Waiting = WithOutcome export recording (λ o. o.answer ≡ Waiting)
-ComesFrom export recording export_rose recording_rose out_rose NoCommand = ⊥
-ComesFrom export recording export_rose recording_rose out_rose NoReading = ⊥
-ComesFrom export recording export_rose recording_rose out_rose (Fault Recording) = recording_rose
-ComesFrom export recording export_rose recording_rose out_rose (Fault Export) = export_rose
-ComesFrom export recording export_rose recording_rose out_rose NoMemory = Unit {0}
-ComesFrom export recording export_rose recording_rose out_rose (Invalid vsn) = WithOutcome export recording (λ o. o.answer ≡ Invalid vsn)
-ComesFrom export recording export_rose recording_rose out_rose (Refused cause) = WithOutcome export recording (λ o. o.answer ≡ Refused cause)
-ComesFrom export recording export_rose recording_rose out_rose OutputFault = out_rose × WithOutcome export recording (λ o. is_refusal o.answer ≡ false)
-ComesFrom export recording export_rose recording_rose out_rose (TooLong line) = WithOutcome export recording (λ o. o.answer ≡ TooLong line)
-ComesFrom export recording export_rose recording_rose out_rose NotBuilt = WithOutcome export recording (λ o. o.answer ≡ NotBuilt)
-
--- what was printed: the outcome's text where the command did its work, a prefix of it where the output
--- failed or memory was not found, and else nothing
-abbrev pub IsPrinted : Option Files → Option Files → Option (List ℕ) → Option (List ℕ) → Answer → Type 0
-IsPrinted export recording old new Done = WithOutcome export recording (λ o. new ≡ grown old o.text)
-IsPrinted export recording old new Waiting = WithOutcome export recording (λ o. new ≡ grown old o.text)
-IsPrinted export recording old new NoCommand = new ≡ old
-IsPrinted export recording old new NoReading = new ≡ old
-IsPrinted export recording old new (Fault disk) = new ≡ old
-IsPrinted export recording old new NoMemory = WithOutcome export recording (λ o. GotFront o.text old new)
-IsPrinted export recording old new (Invalid vsn) = new ≡ old
-IsPrinted export recording old new (Refused cause) = new ≡ old
-IsPrinted export recording old new OutputFault = WithOutcome export recording (λ o. GotFront o.text old new)
-IsPrinted export recording old new (TooLong line) = new ≡ old
-IsPrinted export recording old new NotBuilt = new ≡ old
 
 -- a place with the two sinks, before or after a command
 pub record State (D K : Type 0) : Type 0 where
@@ -65,28 +18,22 @@ pub record State (D K : Type 0) : Type 0 where
   pub out : K
   pub err : K
 
--- a fact on the answer to words that ask for the dry run; words without a reading have just their answer
-abbrev pub IsAskedFor : Asked → (Answer → Type 0) → Answer → Type 0
-IsAskedFor asked.NoCommand comes a = a ≡ NoCommand
-IsAskedFor asked.NoReading comes a = a ≡ NoReading
-IsAskedFor asked.DryRun comes a = comes a
+-- nothing was done
+pub record IsIdle {D K : Type 0} (old new : Place D) (old_out new_out : K) : Type 0 where
+  pub place : new ≡ old
+  pub out : new_out ≡ old_out
 
--- one command: its status is that of an answer with its cause, its texts are on the sinks, and no disk changed
+-- what was done is what was asked for; for words without a reading nothing was
+abbrev pub IsDone : {D K : Type 0} → (D → Option Files) → (D → ℕ) → (K → Option (List ℕ)) → (K → ℕ) → Asked → Place D → Place D → K → K → Answer → Type 0
+IsDone files faults written failures asked.NoCommand old new old_out new_out a = IsIdle old new old_out new_out × (a ≡ NoCommand)
+IsDone files faults written failures (asked.NoReading phrase) old new old_out new_out a = IsIdle old new old_out new_out × (a ≡ NoReading phrase)
+IsDone files faults written failures asked.DryRun old new old_out new_out a = IsDryRun files faults written failures old new old_out new_out a
+IsDone files faults written failures (asked.Show side) old new old_out new_out a = IsShow files faults written failures side old new old_out new_out a
+
+-- one command: its status and its text on `err` are those of an answer that stands for what was done
 pub record IsAnswered {D K : Type 0} (files : D → Option Files) (faults : D → ℕ) (written : K → Option (List ℕ)) (failures : K → ℕ)
     (words : List (List ℕ)) (code : ℕ) (old new : State D K) : Type 0 where
   pub answer : Answer
   pub status : code ≡ status_of answer
-  pub cause : IsAskedFor (asked_by words)
-      (ComesFrom (files old.place.export) (files old.place.recording) (Rose (faults old.place.export) (faults new.place.export))
-      (Rose (faults old.place.recording) (faults new.place.recording)) (Rose (failures old.out) (failures new.out)))
-      answer
-  pub complete : IsAskedFor (asked_by words)
-      (IsComplete (files old.place.export) (files old.place.recording) (Rose (faults old.place.export) (faults new.place.export))
-      (Rose (faults old.place.recording) (faults new.place.recording)) (Rose (failures old.out) (failures new.out)))
-      answer
-  pub printed : IsPrinted (files old.place.export) (files old.place.recording) (written old.out) (written new.out) answer
   pub told : GotFront (text_on_err answer) (written old.err) (written new.err)
-  pub recording : files new.place.recording ≡ files old.place.recording
-  pub export : files new.place.export ≡ files old.place.export
-  pub target : new.place.target ≡ old.place.target
-  pub source : new.place.source ≡ old.place.source
+  pub done : IsDone files faults written failures (asked_by words) old.place new.place old.out new.out answer

@@ -5,15 +5,15 @@ use Rattle.voy_event.specs.declared.event.Event.{Event}
 use Rattle.voy_event.specs.declared.line_error.LineWhy.{LineWhy}
 use Rattle.voy_event.specs.declared.line_error.LineWhy.TheVariants as why
 use Rattle.voy_report.specs.Show.{tables_text}
-use Rattle.voy_schema.specs.Reading.{schema_reading}
 use Rattle.voy_schema.specs.declared.table.Table.{Table}
 use Rattle.voy_schema.specs.declared.value.Value.{Value}
-use Rattle.voy_schema.specs.declared.why.SchemaWhy.{SchemaWhy}
 use Rattle.voy_tables.specs.Lists.{empty_lists}
+use Rattle.voyager.specs.Recorded.{recorded_schema}
 use Rattle.voyager.specs.Segment.{Queue, event_lines, folded, is_cutover, queue_of}
 use Rattle.voyager.specs.declared.answer.Answer.{Answer}
 use Rattle.voyager.specs.declared.answer.Answer.TheVariants.{Done, Waiting, Invalid, Refused, TooLong}
-use Rattle.voyager.specs.declared.answer.Cause.TheVariants.{MissingSchema, Schema, Segment}
+use Rattle.voyager.specs.declared.answer.Cause.{Cause}
+use Rattle.voyager.specs.declared.answer.Cause.TheVariants.{Segment}
 
 -- an answer with the text on `out`
 pub record Outcome : Type 0 where
@@ -63,11 +63,10 @@ outcome_of_lines schema lines =
     let queue = queue_of schema 1 false lines in
     with_fold schema queue (folded schema (empty_lists schema) queue.events)
 
-abbrev pub outcome_of_reading : Result (List Table) (ℕ × SchemaWhy) → List (List ℕ) → Outcome
-outcome_of_reading (Err refused) lines = refusing (Refused (Schema refused.0 refused.1))
-outcome_of_reading (Ok schema) lines = outcome_of_lines schema lines
+abbrev pub outcome_by : Result (List Table) Cause → List (List ℕ) → Outcome
+outcome_by (Err cause) lines = refusing (Refused cause)
+outcome_by (Ok schema) lines = outcome_of_lines schema lines
 
 -- the outcome for `schema.json` and `segment.0.ndjson`, each perhaps absent
 abbrev pub outcome_of : Option (List ℕ) → Option (List ℕ) → Outcome
-outcome_of None segment = refusing (Refused MissingSchema)
-outcome_of (Some bytes) segment = outcome_of_reading (schema_reading bytes) (event_lines segment)
+outcome_of schema segment = outcome_by (recorded_schema schema) (event_lines segment)

@@ -1,5 +1,5 @@
 -- The outcome of a dry run by the files of the two disks that it reads.
-use Rattle.std.specs.Prelude.{◌≡◌, ℕ, List, Option, Some, codes, is_some, option_map, if◌then◌else◌}
+use Rattle.std.specs.Prelude.{ℕ, List, Option, codes, is_some, option_map, if◌then◌else◌}
 use Rattle.voy_disk.specs.File.{File}
 use Rattle.voy_disk.specs.Files.{Files}
 use Rattle.voyager.specs.DryRun.{Outcome, outcome_of, refusing}

@@ -1,5 +1,6 @@
 pub mod Words
 pub mod Answer
+pub mod Recorded
 pub mod Segment
 pub mod DryRun
 pub mod Folding
@@ -7,4 +8,6 @@ pub mod Files
 pub mod Stops
 pub mod Valid
 pub mod Printing
+pub mod DryRunAnswered
+pub mod Show
 pub mod Answered

@@ -1,16 +1,16 @@
 -- When the files of a dry run state a valid stream, and what the dry run owes for one.
-use Rattle.std.specs.Prelude.{◌≡◌, ◌⊎◌, ℕ, Bool, false, List, [], ◌∷◌, ◌++◌, Option, Some, None, Ok, option_map}
+use Rattle.std.specs.Prelude.{◌≡◌, ◌⊎◌, ℕ, Bool, false, List, [], ◌∷◌, ◌++◌, Option, None, Ok}
 use Rattle.std.specs.List.{list_any}
 use Rattle.voy_disk.specs.Files.{Files, IfTold}
 use Rattle.voy_event.specs.declared.event.Event.{Event}
 use Rattle.voy_event.specs.declared.event.What.{What}
 use Rattle.voy_event.specs.declared.event.What.TheVariants as what
-use Rattle.voy_schema.specs.Reading.{schema_reading}
 use Rattle.voy_schema.specs.declared.table.Table.{Table}
 use Rattle.voy_tables.specs.Changes.{RowChange, row_change}
 use Rattle.voy_tables.specs.Tables.{IsValid, no_rows}
 use Rattle.voyager.specs.DryRun.{end_answer, outcome_of}
 use Rattle.voyager.specs.Files.{file_bytes, metadata_name, schema_name, segment_name}
+use Rattle.voyager.specs.Recorded.{recorded_schema}
 use Rattle.voyager.specs.Segment.{Queue, event_lines, is_cutover, queue_of}
 use Rattle.voyager.specs.Stops.{is_refusal}
 use Rattle.voyager.specs.declared.answer.Answer.{Answer}
@@ -48,13 +48,13 @@ pub record FoldsWhereValid (schema : List Table) (segment : Option (List ℕ)) (
 -- by a readable schema, a segment is folded to its end exactly where it is valid
 abbrev pub ValidStreamsFold : Type 0
 ValidStreamsFold =
-    (bytes : List ℕ) (schema : List Table) (segment : Option (List ℕ)) → schema_reading bytes ≡ Ok schema
-    → FoldsWhereValid schema segment (outcome_of (Some bytes) segment).answer
+    (file : Option (List ℕ)) (schema : List Table) (segment : Option (List ℕ)) → recorded_schema file ≡ Ok schema
+    → FoldsWhereValid schema segment (outcome_of file segment).answer
 
 -- the files of a dry run that must come to its end: no metadata, a schema that reads as this one, and a valid segment
 pub record IsValidInput (export recording : Files) (schema : List Table) : Type 0 where
   pub no_metadata : export metadata_name ≡ None
-  pub readable : option_map schema_reading (file_bytes (recording schema_name)) ≡ Some (Ok schema)
+  pub readable : recorded_schema (file_bytes (recording schema_name)) ≡ Ok schema
   pub valid : IsValidSegment schema (file_bytes (export segment_name))
 
 -- such a dry run in which no count rose answers done where the cutover event is there, and else waiting, or want of

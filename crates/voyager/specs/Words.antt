@@ -1,8 +1,11 @@
 -- What the words of a command ask for.
 use Rattle.std.specs.Prelude.{◌≡◌, ℕ, Bool, List, [], ◌∷◌, ◌++◌, ◌&&◌, Option, Some, None, codes, if◌then◌else◌}
 use Rattle.std.specs.Str.{bytes_eq}
+use Rattle.voyager.specs.declared.side.Side.{Side}
+use Rattle.voyager.specs.declared.side.Side.TheVariants.{Target, Source}
 use Rattle.voyager.specs.declared.words.Asked.{Asked}
-use Rattle.voyager.specs.declared.words.Asked.TheVariants.{DryRun, NoReading, NoCommand}
+use Rattle.voyager.specs.declared.words.Asked.TheVariants.{DryRun, Show, NoReading, NoCommand}
+use Rattle.voyager.specs.declared.words.Phrase.TheVariants as phrase
 
 -- the phrase `import data to target` as four words
 unfoldable pub is_import_to_target : List ℕ → List ℕ → List ℕ → List ℕ → Bool
@@ -11,17 +14,34 @@ is_import_to_target a b c d =
 
 -- behind that phrase there is the one option `--dry-run`
 unfoldable pub asked_after_import : List (List ℕ) → Asked
-asked_after_import [] = NoReading
-asked_after_import (option ∷ []) = if bytes_eq option (codes "--dry-run") then DryRun else NoReading
-asked_after_import (option ∷ more ∷ rest) = NoReading
+asked_after_import [] = NoReading phrase.ImportToTarget
+asked_after_import (option ∷ []) = if bytes_eq option (codes "--dry-run") then DryRun else NoReading phrase.ImportToTarget
+asked_after_import (option ∷ more ∷ rest) = NoReading phrase.ImportToTarget
+
+-- behind a phrase that shows a store there is nothing
+abbrev pub asked_after_show : Side → List (List ℕ) → Asked
+asked_after_show side [] = Show side
+asked_after_show side (word ∷ rest) = NoReading (phrase.Show side)
+
+-- the phrases `show target` and `show source` are `show` and the side's name
+unfoldable pub asked_to_show : List ℕ → List (List ℕ) → Asked
+asked_to_show name rest =
+    if bytes_eq name (codes "target") then asked_after_show Target rest
+    else if bytes_eq name (codes "source") then asked_after_show Source rest
+    else NoCommand
+
+abbrev pub asked_to_import : List (List ℕ) → Asked
+asked_to_import [] = NoCommand
+asked_to_import (a ∷ []) = NoCommand
+asked_to_import (a ∷ b ∷ []) = NoCommand
+asked_to_import (a ∷ b ∷ c ∷ []) = NoCommand
+asked_to_import (a ∷ b ∷ c ∷ d ∷ rest) = if is_import_to_target a b c d then asked_after_import rest else NoCommand
 
 -- what these words ask for
-abbrev pub asked_by : List (List ℕ) → Asked
+unfoldable pub asked_by : List (List ℕ) → Asked
 asked_by [] = NoCommand
 asked_by (a ∷ []) = NoCommand
-asked_by (a ∷ b ∷ []) = NoCommand
-asked_by (a ∷ b ∷ c ∷ []) = NoCommand
-asked_by (a ∷ b ∷ c ∷ d ∷ rest) = if is_import_to_target a b c d then asked_after_import rest else NoCommand
+asked_by (a ∷ b ∷ rest) = if bytes_eq a (codes "show") then asked_to_show b rest else asked_to_import (a ∷ b ∷ rest)
 
 abbrev pub non_empty : List ℕ → Option (List ℕ)
 non_empty [] = None

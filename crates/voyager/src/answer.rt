@@ -1,19 +1,52 @@
 ghost use Rattle.std.specs.Prelude.{◌≡◌, ◌++◌, codes, decimal, OnOk};
 ghost use Rattle.voy_disk.specs.Written.{GotFront};
-ghost use Rattle.voyager.specs.Answer.{cause_text, status_of, text_on_err};
+ghost use Rattle.voyager.specs.Answer.{cause_text, disk_name, disk_of, phrase_text, status_of, text_on_err};
 ghost use Rattle.voyager.specs.Stops.{disk_stop};
 
+use crate::side::Side;
+use crate::words::Phrase;
 use itoa::Buffer;
 use std::alloc::{AllocError, Global};
 use voy_disk::{DiskError, Sink, write_all};
 use voy_event::LineWhy;
 use voy_schema::{Bytes, SchemaWhy};
 
-/// A disk that a dry run reads.
+/// A disk of the place.
 #[derive(Clone, Copy, Debug, PartialEq, Eq)]
 pub enum Which {
     Recording,
     Export,
+    Target,
+    Source,
+}
+
+impl Which {
+    /// The name of its folder.
+    #[tactic(auto, unfolding(crate::specs::Answer::disk_name))]
+    fn name(self) -> &'static str
+        ensures { result.now ≡ disk_name self }
+    {
+        match self {
+            Which::Recording => "recording",
+            Which::Export => "export",
+            Which::Target => "target",
+            Which::Source => "source",
+        }
+    }
+}
+
+impl Phrase {
+    /// Its words.
+    #[tactic(auto, unfolding(crate::specs::Answer::phrase_text))]
+    fn text(self) -> &'static str
+        ensures { result.now ≡ phrase_text self }
+    {
+        match self {
+            Phrase::ImportToTarget => "import data to target",
+            Phrase::Show(Side::Target) => "show target",
+            Phrase::Show(Side::Source) => "show source",
+        }
+    }
 }
 
 /// The part of the recording that breaks a rule, and the rule.
@@ -34,13 +67,17 @@ pub enum Answer {
     Done,
     /// The committed events ended before a cutover event.
     Waiting,
+    /// The store was shown.
+    Shown,
     /// No phrase of a command is a prefix of the words.
     NoCommand,
-    /// The words after the phrase have no reading.
-    NoReading,
+    /// The words after this phrase have no reading.
+    NoReading(Phrase),
     /// This disk failed: its count of faults rose.
     Fault(Which),
     NoMemory,
+    /// The journal of this side's store is damaged at the gate at this offset.
+    Damaged { side: Side, offset: u64 },
     /// The change with this vsn does not fit the fold of those before it.
     Invalid { vsn: u64 },
     /// The recording breaks a rule that is no limit.
@@ -59,11 +96,12 @@ impl Answer {
         ensures { result ≡ status_of self }
     {
         match self {
-            Answer::Done => 0,
-            Answer::NoCommand | Answer::NoReading => 1,
+            Answer::Done | Answer::Shown => 0,
+            Answer::NoCommand | Answer::NoReading(_) => 1,
             Answer::Fault(_) => 2,
             Answer::NoMemory => 3,
             Answer::Waiting => 4,
+            Answer::Damaged { .. } => 5,
             Answer::Invalid { .. } => 7,
             Answer::Refused(_) => 8,
             Answer::OutputFault => 9,
@@ -90,16 +128,19 @@ impl Answer {
         ensures { OnOk result (to.new ≡ to.old ++ text_on_err self) }
     {
         match self {
-            Answer::Done | Answer::Waiting => Ok(()),
+            Answer::Done | Answer::Waiting | Answer::Shown => Ok(()),
             Answer::NoCommand => to.append_slice(b"voyager: no such command\n"),
-            Answer::NoReading => to.append_slice(
-                b"voyager: the words after \"import data to target\" have no reading\n",
+            Answer::NoReading(phrase) => append_between(
+                b"voyager: the words after \"",
+                phrase.text(),
+                b"\" have no reading\n",
+                to,
             ),
-            Answer::Fault(Which::Recording) => {
-                to.append_slice(b"voyager: disk fault: recording\n")
+            Answer::Fault(disk) => {
+                append_between(b"voyager: disk fault: ", disk.name(), b"\n", to)
             }
-            Answer::Fault(Which::Export) => to.append_slice(b"voyager: disk fault: export\n"),
             Answer::NoMemory => to.append_slice(b"voyager: out of memory\n"),
+            Answer::Damaged { side, offset } => append_damage(side, offset, to),
             Answer::Invalid { vsn } => {
                 append_numbered(b"voyager: invalid stream at vsn ", vsn, b"\n", to)
             }
@@ -138,6 +179,21 @@ impl Cause {
     }
 }
 
+/// Appends the disk and file that are damaged, and the offset.
+fn append_damage(side: Side, offset: u64, to: &mut Bytes) -> Result<(), AllocError>
+    ensures { OnOk result (to.new ≡ to.old ++ (codes "voyager: damaged: " ++ disk_name (disk_of side) ++ codes "/store.journal at " ++ decimal offset ++ codes "\n")) }
+{
+    append_between(
+        b"voyager: damaged: ",
+        side.disk().name(),
+        b"/store.journal at ",
+        to,
+    )?;
+    to.append_slice(Buffer::new().format(offset).as_bytes())?;
+    to.append_slice(b"\n")?;
+    Ok(())
+}
+
 /// Appends the refusal of a line, with the words for its cause.
 fn append_refusal(front: &[u8], line: u64, why: &str, to: &mut Bytes) -> Result<(), AllocError>
     ensures { OnOk result (to.new ≡ to.old ++ (front.now ++ decimal line ++ codes ": " ++ why.now ++ codes "\n")) }
@@ -145,6 +201,16 @@ fn append_refusal(front: &[u8], line: u64, why: &str, to: &mut Bytes) -> Result<
     append_numbered(front, line, b": ", to)?;
     to.append_slice(why.as_bytes())?;
     to.append_slice(b"\n")?;
+    Ok(())
+}
+
+/// Appends a text between two others.
+fn append_between(front: &[u8], text: &str, behind: &[u8], to: &mut Bytes) -> Result<(), AllocError>
+    ensures { OnOk result (to.new ≡ to.old ++ (front.now ++ text.now ++ behind.now)) }
+{
+    to.append_slice(front)?;
+    to.append_slice(text.as_bytes())?;
+    to.append_slice(behind)?;
     Ok(())
 }
 

@@ -1,24 +1,21 @@
-ghost use Rattle.std.specs.Prelude.{◌≡◌, ◌≤◌, [], ℕ, List, Option, Some, IfErr, IfOk, is_some};
+ghost use Rattle.std.specs.Prelude.{◌≡◌, ◌≤◌, [], IfErr, IfOk, is_some};
 ghost use Rattle.voy_disk.specs.Faults.{Rose};
-ghost use Rattle.voyager.specs.Answered.{ComesFrom, IsPrinted, StopsDryRun, WithOutcome};
-ghost use Rattle.voyager.specs.DryRun.{outcome_of, outcome_of_lines, refusing};
+ghost use Rattle.voyager.specs.DryRunAnswered.{ComesFrom, IsPrinted, StopsDryRun, WithOutcome};
 ghost use Rattle.voy_disk.specs.Files.{IfTold};
-ghost use Rattle.voyager.specs.Files.{file_bytes, metadata_name, schema_name};
+ghost use Rattle.voyager.specs.Files.{metadata_name};
 ghost use Rattle.voyager.specs.Folding.{outcome_from};
-ghost use Rattle.voyager.specs.Segment.{event_lines};
 ghost use Rattle.voyager.specs.Stops.{StopsBy};
 ghost use Rattle.voyager.specs.Valid.{IsComplete};
 
-use crate::answer::{Answer, Cause, Which, disk_stop};
+use crate::answer::{Answer, Which, disk_stop};
 use crate::fold::Fold;
 use crate::laws::valid_streams_fold;
-use crate::names::{metadata_file, schema_file};
+use crate::names::metadata_file;
 use crate::print::print_fold;
+use crate::recorded::read_schema;
 use crate::segment::fold_segment;
 use std::alloc::Global;
 use voy_disk::{Disk, Sink};
-use voy_files::read_file;
-use voy_schema::{Schema, SchemaError};
 
 /// The dry run without metadata: folds the exported segment by the recorded schema, and prints the rows
 /// and whether the cutover event was reached.
@@ -84,37 +81,5 @@ fn has_metadata<D: Disk>(alloc: Global, export: &mut D) -> Result<bool, Answer>
     match export.len(&name) {
         Ok(length) => Ok(length.is_some()),
         Err(error) => Err(disk_stop(Which::Export, error)),
-    }
-}
-
-/// The recorded schema.
-fn read_schema<D: Disk>(alloc: Global, recording: &mut D) -> Result<Schema, Answer>
-    ensures ok { IfOk result (λ schema. IfTold (D.files recording.old) (λ fs. (segment : Option (List ℕ)) →
-        outcome_of (file_bytes (fs schema_name)) segment ≡ outcome_of_lines schema.tables (event_lines segment))) }
-    ensures err { IfErr result (StopsBy (Answer.Fault Which.Recording) (Rose (D.faults recording.old) (D.faults recording.new)) (λ a.
-        IfTold (D.files recording.old) (λ fs. (segment : Option (List ℕ)) →
-        outcome_of (file_bytes (fs schema_name)) segment ≡ refusing a))) }
-    ensures same { D.files recording.new ≡ D.files recording.old }
-    ensures later { D.faults recording.old ≤ D.faults recording.new }
-{
-    let Ok(name) = schema_file(alloc) else {
-        return Err(Answer::NoMemory);
-    };
-    match read_file(alloc, recording, &name) {
-        Ok(Some(bytes)) => schema_of(alloc, bytes.as_slice()),
-        Ok(None) => Err(Answer::Refused(Cause::MissingSchema)),
-        Err(error) => Err(disk_stop(Which::Recording, error)),
-    }
-}
-
-fn schema_of(alloc: Global, bytes: &[u8]) -> Result<Schema, Answer>
-    ensures ok { IfOk result (λ schema. (segment : Option (List ℕ)) →
-        outcome_of (Some bytes.now) segment ≡ outcome_of_lines schema.tables (event_lines segment)) }
-    ensures err { IfErr result (StopsBy Answer.NoMemory ⊥ (λ a. (segment : Option (List ℕ)) → outcome_of (Some bytes.now) segment ≡ refusing a)) }
-{
-    match Schema::read(alloc, bytes) {
-        Ok(schema) => Ok(schema),
-        Err(SchemaError::Bad { table, why }) => Err(Answer::Refused(Cause::Schema { table, why })),
-        Err(SchemaError::NoMemory) => Err(Answer::NoMemory),
     }
 }

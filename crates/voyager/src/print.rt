@@ -24,7 +24,17 @@ pub fn print_fold<K: Sink>(alloc: Global, fold: &Fold, out: &mut K) -> Result<()
     if append_fold(alloc, fold, &mut text).is_err() {
         return Err(Answer::NoMemory);
     }
-    match write_all(out, text.as_slice()) {
+    print_text(text.as_slice(), out)
+}
+
+/// Prints a text. After an error a prefix of it was printed.
+pub fn print_text<K: Sink>(text: &[u8], out: &mut K) -> Result<(), Answer>
+    ensures ok { OnOk result (K.written out.new ≡ grown (K.written out.old) text.now) }
+    ensures front { GotFront text.now (K.written out.old) (K.written out.new) }
+    ensures err { IfErr result (IsOutputStop (Rose (K.faults out.old) (K.faults out.new))) }
+    ensures later { K.faults out.old ≤ K.faults out.new }
+{
+    match write_all(out, text) {
         Ok(()) => Ok(()),
         Err(SinkError::Failed) => Err(Answer::OutputFault),
         Err(SinkError::NoMemory) => Err(Answer::NoMemory),

@@ -4,6 +4,8 @@ use std::process::Abort;
 use std::test::Fail;
 use voy_disk::{FaultPlan, MemDisk, MemSink, Name, Numbers, Place};
 
+mod stores;
+
 const DRY_RUN: &str = "import data to target --dry-run";
 
 const NOTES: &str =

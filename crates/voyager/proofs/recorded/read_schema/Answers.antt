@@ -1,12 +1,12 @@
-use Rattle.std.proofs.Common.{◌≡◌, ℕ, List, Option, Some, ap, ◌∙◌, is_some, true}
+use Rattle.std.proofs.Common.{◌≡◌, ℕ, List, Some, ap, ◌∙◌, is_some, true}
 use Rattle.std.proofs.lemmas.Result.{IfErr-weaker, IfOk-weaker}
-use Rattle.voy_disk.specs.Files.{Files, bytes_now}
-use Rattle.voyager.specs.DryRun.{outcome_of}
+use Rattle.voy_disk.specs.Files.{Files, bytes_now, told_at}
 use Rattle.voyager.specs.Files.{file_bytes, schema_name}
-use Rattle.voyager.proofs.DryRunLaws.{file_there, memory_or_refusal}
-use Rattle.voy_disk.specs.Files.{told_at}
-use Rattle.voyager.proofs.dry_run.read_schema.Given.{Over}
-use Rattle.voyager.proofs.dry_run.read_schema.Goals as goal
+use Rattle.voyager.specs.Recorded.{recorded_schema}
+use Rattle.voyager.proofs.DryRunLaws.{file_there}
+use Rattle.voyager.proofs.ShowLaws.{refuses_schema}
+use Rattle.voyager.proofs.recorded.read_schema.Given.{Over}
+use Rattle.voyager.proofs.recorded.read_schema.Goals as goal
 
 -- the file that was read is the schema's
 reads_schema : (g : Over) (c : goal.After-drop-name-inside g) (fs : Files) → g.D.Disk.files c.args.recording.now ≡ Some fs
@@ -21,13 +21,10 @@ reads_schema g c fs is =
 
 pub returns-in-Ok-Some-clause-ok : goal.returns-in-Ok-Some-clause-ok
 returns-in-Ok-Some-clause-ok g c =
-    IfOk-weaker c.schema_of.result _ _
-    (λ schema reads. λ fs is. λ segment. ap (λ (bytes : Option (List ℕ)). outcome_of bytes segment) (reads_schema g c fs is) ∙ reads segment)
-    c.schema_of.ensures.ok
+    IfOk-weaker c.schema_of.result _ _ (λ schema reads. λ fs is. ap recorded_schema (reads_schema g c fs is) ∙ reads) c.schema_of.ensures.ok
 
 pub returns-in-Ok-Some-clause-err : goal.returns-in-Ok-Some-clause-err
 returns-in-Ok-Some-clause-err g c =
     IfErr-weaker c.schema_of.result _ _
-    (λ a stop. memory_or_refusal a _ _ _ _
-    (λ refuses. λ fs is. λ segment. ap (λ (bytes : Option (List ℕ)). outcome_of bytes segment) (reads_schema g c fs is) ∙ refuses segment) stop)
+    (λ a stop. refuses_schema a _ _ _ (λ cause refuses. λ fs is. ap recorded_schema (reads_schema g c fs is) ∙ refuses) stop)
     c.schema_of.ensures.err

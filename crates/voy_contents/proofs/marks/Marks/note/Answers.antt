@@ -1,0 +1,18 @@
+use Rattle.std.proofs.Common.{length, refl, sym}
+use Rattle.std.proofs.lemmas.Bool.{ltb-true}
+use Rattle.voy_contents.proofs.IndexLemmas.{get_at}
+use Rattle.voy_contents.proofs.MarkLemmas.{batch_noted, events_noted}
+use Rattle.voy_contents.proofs.marks.Marks.note.Goals as goal
+
+pub returns-in-Batch-clause-noted : goal.returns-in-Batch-clause-noted
+returns-in-Batch-clause-noted c = λ lists.
+    let marks = c.args.self.now in
+    let named = rw c.in-Batch.is at c.requires.names in
+    rw c.in-Batch.is (batch_noted lists marks c.in-Batch.table c.in-Batch.number c.in-Batch.rows c.item_mut.result.now c.add_batch.new.self named
+    (get_at marks.tables c.in-Batch.table c.item_mut.result.now (ltb-true c.in-Batch.table (length marks.tables) named) c.item_mut.ensures.value)
+    c.add_batch.ensures.batches (rw (sym c.len-rows.ensures) c.add_batch.ensures.batch_rows) c.add_batch.ensures.changes)
+
+pub returns-in-Events-clause-noted : goal.returns-in-Events-clause-noted
+returns-in-Events-clause-noted c = λ lists.
+    rw c.in-Events.is (events_noted lists c.args.self.now _ c.in-Events.channel c.in-Events.items refl
+    (rw c.as_slice.ensures at c.raise.ensures) (rw c.as_slice-in-Events.ensures at c.count_changes.ensures))

@@ -1,0 +1,60 @@
+-- What contents in memory say of a history, and how a transaction changes them.
+use Rattle.std.specs.Prelude.{◌≡◌, ◌||◌, List, length}
+use Rattle.voy_schema.specs.declared.table.Table.{Table}
+use Rattle.voy_schema.specs.declared.value.Value.{Value}
+use Rattle.voy_contents.specs.Marks.{HasMarkPlace, NamesTables, says}
+use Rattle.voy_contents.specs.TableSteps.{lists_of}
+use Rattle.voy_contents.specs.WayBack.{LeadsTo}
+use Rattle.voy_contents.specs.declared.contents.MemContents.{MemContents}
+use Rattle.voy_contents.specs.declared.done.Done.{Done}
+use Rattle.voy_txn.specs.Commits.{AreCleanTables}
+use Rattle.voy_txn.specs.Contents.{Contents, is_batch}
+use Rattle.voy_txn.specs.History.{batch_of, batch_rows_after, changes_after, is_load, tables_after, vsns_after}
+use Rattle.voy_txn.specs.declared.txn.Txn.{Txn}
+
+-- the tables of the schema that they are of
+unfoldable pub schema_of : MemContents → List Table
+schema_of contents = contents.schema.tables
+
+-- what they say of a history: the rows that stand, and the marks
+unfoldable pub known : MemContents → Contents
+known contents = says (lists_of contents.tables) contents.marks
+
+-- what a store knows once the items of a transaction are done in its tables, and nothing else
+abbrev pub with_items : List Table → Contents → Txn → Contents
+with_items schema contents txn = record {
+  tables = tables_after schema contents.tables txn;
+  vsns = contents.vsns;
+  has_batch = contents.has_batch;
+  loaded = contents.loaded;
+  batch_rows = contents.batch_rows;
+  changes = contents.changes;
+}
+
+-- and once all but its tables is as after the transaction
+abbrev pub with_marks : Contents → Txn → Contents
+with_marks contents txn = record {
+  tables = contents.tables;
+  vsns = vsns_after contents.vsns txn;
+  has_batch = λ table batch. contents.has_batch table batch || is_batch (batch_of txn) table batch;
+  loaded = contents.loaded || is_load txn;
+  batch_rows = batch_rows_after contents.batch_rows txn;
+  changes = changes_after contents.changes txn;
+}
+
+-- the marks of the transaction have their places
+pub record HasRoomFor (txn : Txn) (contents : MemContents) : Type 0 where
+  pub names : NamesTables (length contents.marks.tables) txn
+  pub place : HasMarkPlace txn contents.marks
+
+-- what was done leads back from these rows to clean ones
+pub record CanUndo (done : Done) (contents : MemContents) : Type 0 where
+  pub first : List (List (List Value))
+  pub clean : AreCleanTables contents.schema.tables first
+  pub leads : LeadsTo contents.schema.tables done.way_back contents.tables first
+
+-- once undone, they say this again
+pub record LeadsBack (done : Done) (now : MemContents) (before : Contents) : Type 0 where
+  pub can : CanUndo done now
+  pub leads : LeadsTo now.schema.tables done.way_back now.tables before.tables
+  pub marks : says before.tables now.marks ≡ before

@@ -1,0 +1,10 @@
+pub mod Slots
+pub mod MemTables
+pub mod Steps
+pub mod TableSteps
+pub mod Loads
+pub mod WayBack
+pub mod Numbers
+pub mod Marks
+pub mod Known
+pub mod KnownLaws

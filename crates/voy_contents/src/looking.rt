@@ -1,0 +1,82 @@
+ghost use Rattle.std.specs.Prelude.{◌≡◌, length, slice_get, IfOk};
+ghost use Rattle.std.specs.Option.{option_copied};
+ghost use Rattle.voy_contents.specs.Known.{known, schema_of};
+ghost use Rattle.voy_tables.specs.Lists.{look, rows_in};
+ghost use Rattle.voy_txn.specs.Contents.{counts_of};
+ghost use Rattle.voy_txn.specs.History.{counted};
+
+use crate::contents::MemContents;
+use std::alloc::AllocError;
+use voy_schema::{Items, Key, Row, Rows};
+use voy_txn::Counts;
+
+impl MemContents {
+    /// The vsn up to which the channel is done, 0 where it has none.
+    #[tactic(auto, unfolding(crate::specs::Known::known, crate::specs::Known::schema_of))]
+    pub fn last(&self, channel: u32) -> u64
+        ensures { result ≡ (known self.now).vsns channel }
+    {
+        self.marks.last(channel)
+    }
+
+    /// Whether the batch of this number of the table was taken.
+    #[tactic(auto, unfolding(crate::specs::Known::known, crate::specs::Known::schema_of))]
+    pub fn has_batch(&self, table: u32, number: u32) -> bool
+        ensures { result ≡ (known self.now).has_batch table number }
+    {
+        self.marks.has_batch(table, number)
+    }
+
+    /// Whether the load was taken.
+    #[tactic(auto, unfolding(crate::specs::Known::known, crate::specs::Known::schema_of))]
+    pub fn loaded(&self) -> bool
+        ensures { result ≡ (known self.now).loaded }
+    {
+        self.marks.loaded
+    }
+
+    /// The row of this key of the table. `None` where there is none, or no such table.
+    #[tactic(auto, unfolding(crate::specs::Known::known, crate::specs::Known::schema_of))]
+    pub fn row(&self, table: u32, key: &Key) -> Option<&Row>
+        ensures { option_copied result ≡ look (schema_of self.now) (known self.now).tables (record { table = table; key = key.now }) }
+    {
+        match self.tables.get(table as usize) {
+            Some(table) => table.row(key),
+            None => None,
+        }
+    }
+
+    /// A copy of the rows of the table, by ascending key; none where there is no such table.
+    #[tactic(auto, unfolding(crate::specs::Known::known, crate::specs::Known::schema_of))]
+    pub fn rows(&self, table: u32) -> Result<Rows, AllocError>
+        ensures { IfOk result (λ rows. rows ≡ rows_in (slice_get (known self.now).tables table)) }
+    {
+        match self.tables.get(table as usize) {
+            Some(table) => table.copied_rows(self.alloc),
+            None => Ok(Items::new(self.alloc)),
+        }
+    }
+
+    /// How many rows and changes there are of the table.
+    #[tactic(auto, unfolding(crate::specs::Known::known, crate::specs::Known::schema_of))]
+    pub fn counts(&self, table: u32) -> Counts
+        ensures { result ≡ counts_of (known self.now) table }
+    {
+        Counts {
+            rows: self.rows_standing(table),
+            batch_rows: self.marks.batch_rows(table),
+            changes: self.marks.changes(table),
+        }
+    }
+
+    /// How many rows of the table stand.
+    #[tactic(auto, unfolding(crate::specs::Known::known, crate::specs::Known::schema_of))]
+    fn rows_standing(&self, table: u32) -> u64
+        ensures { result ≡ counted (length (rows_in (slice_get (known self.now).tables table))) }
+    {
+        match self.tables.get(table as usize) {
+            Some(table) => table.count(),
+            None => 0,
+        }
+    }
+}

@@ -1,0 +1,2 @@
+pub mod JournalLogLemmas
+pub mod OpeningLemmas

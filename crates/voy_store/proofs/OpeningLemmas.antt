@@ -1,0 +1,149 @@
+-- Payloads taken one after the other, and the first that is not.
+use Rattle.std.proofs.Common.{◌≡◌, IfSome, ◌+◌, ◌<◌, ◌≤◌, ◌^◌, ◌&&◌, ℕ, zero, suc, Bool, true, false, cond, List, [], ◌∷◌, ◌++◌, Option, Some, None, drop, get_or, is_none, length, length-append, map, min, take, refl, sym, ap, inl, inr, lit<, ◌∙◌, arith}
+use Rattle.std.proofs.lemmas.List.{drop_more, take_more, map-append}
+use Rattle.std.specs.Global.{Vec}
+use Rattle.std.specs.Option.{option_and_then}
+use Rattle.voy_disk.specs.Calls.{Change, told, untold}
+use Rattle.voy_disk.specs.File.{File}
+use Rattle.voy_disk.specs.Files.{AreShort, Files, IfTold, bytes_now}
+use Rattle.voy_disk.specs.Images.{ImagesOf}
+use Rattle.voy_disk.specs.Steps.{Every}
+use Rattle.voy_journal.specs.Grammar.{Fit, HasPayloads, entries}
+use Rattle.voy_journal.specs.Journal.{KeepsOtherFiles, StandsOn, journal_name, known_payloads, payloads_in}
+use Rattle.voy_journal.specs.declared.state.Journal.{Journal}
+use Rattle.voy_journal.specs.declared.limits.TheConstants.{MAX_PAYLOAD_BYTES}
+use Rattle.voy_schema.specs.declared.table.Table.{Table}
+use Rattle.voy_store.proofs.JournalLogLemmas.{history_more, history_of_one, more}
+use Rattle.voy_store.specs.JournalLogLaws.{stands_as_known}
+use Rattle.voy_store.specs.JournalLogs.{history_on, history_told}
+use Rattle.voy_store.specs.Opening.{TellsStored}
+use Rattle.voy_store.specs.Stored.{first_bad, if_taken, store_name}
+use Rattle.voy_store.specs.Taking.{AreTaken, FitAFile}
+use Rattle.voy_txn.specs.Commits.{is_next}
+use Rattle.voy_txn.specs.Contents.{Contents, contents_after, contents_of}
+use Rattle.voy_txn.specs.HistoryLaws.{contents_grow}
+use Rattle.voy_txn.specs.Items.{violation_of}
+use Rattle.voy_txn.specs.Reading.{txn_reading}
+use Rattle.voy_txn.specs.declared.txn.Txn.{Txn}
+
+-- files that stay as they are
+pub nothing_changed : (name : List ℕ) (files : Option Files) → Change (KeepsOtherFiles name) files files
+nothing_changed name None = untold
+nothing_changed name (Some fs) = told (λ other differs. refl)
+
+abbrev pub bytes_of : List (Vec ℕ) → List (List ℕ)
+bytes_of payloads = map (λ (payload : Vec ℕ). payload.items) payloads
+
+-- the payload at a place of those that are left, and of those that were passed
+pub left_at : (payloads : List (Vec ℕ)) (i : ℕ) (payload : Vec ℕ) → i < length payloads → payload ≡ get_or payloads i payload
+    → bytes_of (drop i payloads) ≡ payload.items ∷ bytes_of (drop (i + 1) payloads)
+left_at payloads i payload within is = ap bytes_of (drop_more payloads i payload within ∙ ap (λ (p : Vec ℕ). p ∷ drop (i + 1) payloads) (sym is))
+
+pub passed_at : (payloads : List (Vec ℕ)) (i : ℕ) (payload : Vec ℕ) → i < length payloads → payload ≡ get_or payloads i payload
+    → bytes_of (take (i + 1) payloads) ≡ bytes_of (take i payloads) ++ payload.items ∷ []
+passed_at payloads i payload within is =
+    ap bytes_of (take_more payloads i payload within ∙ ap (λ (p : Vec ℕ). take i payloads ++ p ∷ []) (sym is))
+    ∙ map-append (λ (p : Vec ℕ). p.items) (take i payloads) (payload ∷ [])
+
+-- a payload that is no transaction or is not taken is the first bad one, and one that is taken is not
+pub bad_here : (schema : List Table) (contents : Contents) (offset : ℕ) (payload : List ℕ) (rest : List (List ℕ))
+    → option_and_then (if_taken schema contents) (txn_reading schema payload) ≡ None → first_bad schema contents offset (payload ∷ rest) ≡ Some offset
+bad_here schema contents offset payload rest none = rw none refl
+
+pub good_here : (schema : List Table) (contents : Contents) (offset : ℕ) (payload : List ℕ) (rest : List (List ℕ)) (txn : Txn)
+    → option_and_then (if_taken schema contents) (txn_reading schema payload) ≡ Some txn
+    → first_bad schema contents offset (payload ∷ rest) ≡ first_bad schema (contents_after schema contents txn) (offset + (5 + length payload)) rest
+good_here schema contents offset payload rest txn some = rw some refl
+
+-- what is taken was read
+pub taken_is_read : (schema : List Table) (contents : Contents) (read : Option Txn) (txn : Txn) → option_and_then (if_taken schema contents) read ≡ Some txn → read ≡ Some txn
+taken_is_read schema contents None txn is = absurd cc
+taken_is_read schema contents (Some found) txn is = chosen (is_next contents found && is_none (violation_of schema contents.tables found)) is where
+  chosen : (b : Bool) → cond b (Some found) None ≡ Some txn → Some found ≡ Some txn
+  chosen true same = same
+  chosen false same = absurd cc
+
+-- one more was taken
+pub one_more : (schema : List Table) (payloads : List (List ℕ)) (payload : List ℕ) (txn : Txn) (old new : Contents) → AreTaken schema payloads old
+    → txn_reading schema payload ≡ Some txn → new ≡ contents_after schema old txn → AreTaken schema (payloads ++ payload ∷ []) new
+one_more schema payloads payload txn old new taken read after = record {
+  history = taken.history ++ txn ∷ [];
+  read = history_more schema payloads (payload ∷ []) (txn ∷ []) (history_of_one schema payload txn read) ∙ ap (more (txn ∷ [])) taken.read;
+  known = after ∙ ap (λ contents. contents_after schema contents txn) taken.known ∙ sym (contents_grow schema taken.history txn);
+}
+
+-- no payload of a file is too long
+pub short_at : (payloads : List (Vec ℕ)) (i : ℕ) (payload : Vec ℕ) → Fit (bytes_of payloads) → i < length payloads → payload ≡ get_or payloads i payload
+    → length payload.items ≤ MAX_PAYLOAD_BYTES
+short_at [] i payload fit within is = absurd (omega arith)
+short_at (p ∷ payloads) zero payload fit within is = rw is fit.0
+short_at (p ∷ payloads) (suc i) payload fit within is = short_at payloads i payload fit.1 (omega arith) is
+
+-- the bytes of one entry and of those behind it
+pub entries_length : (payload : List ℕ) (payloads : List (List ℕ)) → length (entries (payload ∷ payloads)) ≡ (5 + length payload) + length (entries payloads)
+entries_length payload payloads = omega (arith, length-append payload (entries payloads))
+
+-- ---- one turn of the loop over payloads
+
+module _ (schema : List Table) (payloads : List (Vec ℕ)) (i : ℕ) (payload : Vec ℕ) (within : i < length payloads) (is : payload ≡ get_or payloads i payload) where
+  pub taken_more : (txn : Txn) (old new : Contents) → AreTaken schema (bytes_of (take i payloads)) old
+      → option_and_then (if_taken schema old) (txn_reading schema payload.items) ≡ Some txn → new ≡ contents_after schema old txn
+      → AreTaken schema (bytes_of (take (i + 1) payloads)) new
+  taken_more txn old new before taken after =
+      rw (passed_at payloads i payload within is)
+      (one_more schema (bytes_of (take i payloads)) payload.items txn old new before (taken_is_read schema old (txn_reading schema payload.items) txn taken) after)
+
+  -- the bytes of what is left are those of its first entry and those behind it
+  left_bytes : length (entries (bytes_of (drop i payloads))) ≡ (5 + length payload.items) + length (entries (bytes_of (drop (i + 1) payloads)))
+  left_bytes = ap (λ left. length (entries left)) (left_at payloads i payload within is) ∙ entries_length payload.items (bytes_of (drop (i + 1) payloads))
+
+  -- the next gate, where all gates are in 64 bits
+  pub next_gate : (offset next total : ℕ) → next ≡ min (offset + (5 + length payload.items)) 18446744073709551615 → total < 2 ^ 63
+      → offset + length (entries (bytes_of (drop i payloads))) ≡ total → next ≡ offset + (5 + length payload.items)
+  next_gate offset next total moved short place = omega (arith, left_bytes)
+
+  pub place_more : (offset next total : ℕ) → next ≡ offset + (5 + length payload.items) → offset + length (entries (bytes_of (drop i payloads))) ≡ total
+      → next + length (entries (bytes_of (drop (i + 1) payloads))) ≡ total
+  place_more offset next total moved place = omega (arith, left_bytes)
+
+  pub rest_more : (offset next : ℕ) (txn : Txn) (old new : Contents) (found : Option ℕ) → next ≡ offset + (5 + length payload.items)
+      → option_and_then (if_taken schema old) (txn_reading schema payload.items) ≡ Some txn → new ≡ contents_after schema old txn
+      → first_bad schema old offset (bytes_of (drop i payloads)) ≡ found → first_bad schema new next (bytes_of (drop (i + 1) payloads)) ≡ found
+  rest_more offset next txn old new found moved taken after left =
+      rw (moved, after)
+      (sym (good_here schema old offset payload.items (bytes_of (drop (i + 1) payloads)) txn taken)
+      ∙ ap (first_bad schema old offset) (sym (left_at payloads i payload within is)) ∙ left)
+
+-- ---- the whole opening
+
+short_bytes : (found : Option File) → IfSome found (λ file. length file.now < 2 ^ 63) → length (bytes_now found) < 2 ^ 63
+short_bytes None short = lit< tt
+short_bytes (Some file) short = short
+
+-- a file can have the payloads that it has
+pub fits_a_file : (payloads : List (List ℕ)) (bytes : List ℕ) → HasPayloads payloads bytes → length bytes < 2 ^ 63 → FitAFile payloads
+fits_a_file payloads bytes (inl holds) short = record {
+  fit = holds.fit;
+  short = omega (arith, ap length holds.split, length-append (entries payloads) (holds.gate ∷ holds.rest));
+}
+fits_a_file payloads bytes (inr (few, none)) short = rw none (record { fit = tt; short = lit< tt })
+
+-- what the journal has is stored, and told
+pub tells_stored : (schema : List Table) (name : List ℕ) (payloads : List (List ℕ)) (journal : Journal) (contents : Contents) (fs : Files) (new : Option Files)
+    → AreShort fs → HasPayloads payloads (bytes_now (fs name)) → Change (KeepsOtherFiles name) (Some fs) new
+    → IfTold new (λ y. known_payloads journal (Some y) ≡ Some payloads) → AreTaken schema payloads contents
+    → (FitAFile payloads → first_bad schema (contents_of schema []) 0 payloads ≡ None)
+    → TellsStored schema (bytes_now (fs name)) (history_on schema journal new)
+tells_stored schema name payloads journal contents fs new short has (told {new = y} others) known taken good = record {
+  history = taken.history;
+  stored = record { payloads = payloads; has = has; read = taken.read; good = good (fits_a_file payloads (bytes_now (fs name)) has (short_bytes (fs name) (short name))) };
+  is = ap (history_told schema) (known y refl) ∙ taken.read;
+}
+
+-- each image has the history that the journal knows
+pub every_tells : (schema : List Table) (journal : Journal) (files : Option Files) → journal_name journal ≡ store_name → StandsOn journal files
+    → Every (ImagesOf files) (λ image. history_told schema (payloads_in store_name image) ≡ history_on schema journal files)
+every_tells schema journal files named stands = record {
+  each = λ image is.
+      ap (λ name. history_told schema (payloads_in name image)) (sym named) ∙ ap (history_told schema) (stands_as_known journal.name journal.gate files image stands is);
+}

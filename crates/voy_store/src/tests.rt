@@ -1,0 +1,158 @@
+use crate::log::Log;
+use crate::log_store::LogStore;
+use std::alloc::{AllocError, Global};
+use std::process::Abort;
+use std::test::Fail;
+use voy_schema::{Bytes, Row, Schema, Value};
+use voy_tables::Misfit;
+use voy_txn::{Store, StoreError, read_txn};
+
+mod in_memory;
+mod over_a_journal;
+
+ghost use Rattle.std.specs.Prelude.{◌≡◌, true, IfOk, OnOk};
+
+/// `users` with the bigint key `id` and the unique text `email`.
+const USERS: &[u8] =
+    br#"{"tables":[{"schema_name":"public","table_name":"users","columns":[{"name":"id","type":"bigint"},{"name":"email","type":"text"}],"primary_key":["id"],"unique_keys":[{"columns":["email"]}]}]}"#;
+
+/// The rows `1,a` and `2,b` as batch 1.
+const BATCH: &[u8] = b"B\0\0\0\0\0\0\0\x01\0\0\0\x02\0\0\0\x081,a\n2,b\n";
+
+fn users(alloc: Global) -> Result<Schema, Fail> {
+    match Schema::read(alloc, USERS) {
+        Ok(schema) => Ok(schema),
+        Err(_refused) => Err("a schema".into()),
+    }
+}
+
+/// Commits the transaction whose payload this is, where the store may take it.
+fn commit<L: Log>(
+    alloc: Global,
+    store: &mut LogStore<L>,
+    payload: &[u8],
+) -> Result<Result<(), StoreError>, Fail>
+    requires live { L.is_live store.old.log ≡ true }
+    requires stands { L.stands store.old.log }
+    ensures live { IfOk result (λ answer. OnOk answer (L.is_live store.new.log ≡ true)) }
+    ensures stands { IfOk result (λ answer. OnOk answer (L.stands store.new.log)) }
+{
+    let Some(txn) = read_txn(alloc, store.contents.schema(), payload)? else {
+        return Err("no transaction".into());
+    };
+    if payload.len() > 1000 || !store.contents.is_next(&txn) {
+        return Err("no transaction that may be next".into());
+    }
+    Ok(store.commit(&txn))
+}
+
+/// What a commit answered, the rows of the table with `;` behind each, its rows, batch rows and changes,
+/// and the vsn of channel 1.
+fn told<L: Log>(
+    alloc: Global,
+    store: &LogStore<L>,
+    answer: Result<(), StoreError>,
+) -> Result<String, AllocError> {
+    let mut told = answer_text(alloc, answer)?;
+    told.push_str(" ")?;
+    let rows = store.rows(0)?;
+    for row in rows.as_slice() {
+        push_row(&mut told, row)?;
+        told.push_str(";")?;
+    }
+    let counts = store.counts(0);
+    let (rows, batch_rows, changes) = (counts.rows, counts.batch_rows, counts.changes);
+    let last = store.last(1);
+    let numbers = format!(in alloc; " {rows}/{batch_rows}/{changes} {last}")?;
+    told.push_str(numbers.as_str())?;
+    Ok(told)
+}
+
+fn answer_text(alloc: Global, answer: Result<(), StoreError>) -> Result<String, AllocError> {
+    match answer {
+        Ok(()) => String::from_str(alloc, "ok"),
+        Err(StoreError::Fault) => String::from_str(alloc, "fault"),
+        Err(StoreError::NoMemory) => String::from_str(alloc, "no memory"),
+        Err(StoreError::Violation { item, why }) => {
+            let why = misfit_text(why);
+            format!(in alloc; "{item} {why}")
+        }
+    }
+}
+
+fn misfit_text(why: Misfit) -> &'static str {
+    match why {
+        Misfit::KeyTaken => "key taken",
+        Misfit::NoRow => "no row",
+        Misfit::OtherRow => "other row",
+        Misfit::Unique { key: 0 } => "unique 0",
+        Misfit::Unique { .. } => "another unique",
+    }
+}
+
+/// The payload of these changes of a channel, with commas between. A change is its kind, its vsn, its id and
+/// its email, or both emails of an update.
+fn events(alloc: Global, channel: u32, changes: &str) -> Result<Bytes, Fail> {
+    let mut lines = Bytes::new(alloc);
+    let mut count: usize = 0;
+    for change in changes.split(',') {
+        let line = line_of(alloc, change)?;
+        push_length(line.as_str().len(), &mut lines)?;
+        lines.append_slice(line.as_str().as_bytes())?;
+        count = count.saturating_add(1);
+    }
+    let mut payload = Bytes::new(alloc);
+    payload.push(b'E')?;
+    payload.append_slice(&channel.to_be_bytes())?;
+    push_length(count, &mut payload)?;
+    payload.append_slice(lines.as_slice())?;
+    Ok(payload)
+}
+
+/// Appends a length of four bytes.
+fn push_length(length: usize, to: &mut Bytes) -> Result<(), Fail> {
+    let Ok(length) = u32::try_from(length) else {
+        return Err("too long".into());
+    };
+    to.append_slice(&length.to_be_bytes())?;
+    Ok(())
+}
+
+fn line_of(alloc: Global, change: &str) -> Result<String, Fail> {
+    let mut words = change.split(' ');
+    let kind = words.next().ok_or("no kind")?;
+    let vsn = words.next().ok_or("no vsn")?;
+    let id = words.next().ok_or("no id")?;
+    let email = words.next().ok_or("no email")?;
+    let row = row_text(alloc, id, email)?;
+    let (before, after) = match kind {
+        "c" => (String::from_str(alloc, "null")?, row),
+        "d" => (row, String::from_str(alloc, "null")?),
+        _ => (
+            row,
+            row_text(alloc, id, words.next().ok_or("no second email")?)?,
+        ),
+    };
+    let line = format!(in alloc;
+        r#"{{"before_fields":{before},"exporter_role":"source_db_exporter","fields":{after},"key":{{"id":"{id}"}},"op":"{kind}","schema_name":"public","table_name":"users","vsn":{vsn}}}"#
+    )?;
+    Ok(line)
+}
+
+fn row_text(alloc: Global, id: &str, email: &str) -> Result<String, AllocError> {
+    format!(in alloc; r#"{{"email":"{email}","id":"{id}"}}"#)
+}
+
+/// The values with `|` between, NULL as `-`.
+fn push_row(to: &mut String, row: &Row) -> Result<(), AllocError> {
+    for (at, value) in row.as_slice().iter().enumerate() {
+        if at > 0 {
+            to.push_str("|")?;
+        }
+        match value {
+            Value::Text(text) => to.push_str(text.as_str())?,
+            Value::Null => to.push_str("-")?,
+        }
+    }
+    Ok(())
+}
