@@ -1,6 +1,6 @@
 #!/usr/bin/env bash
 # Times `show target` over journals of 10,000, 100,000 and 1,000,000 changes (or over those given), and a plain
-# python3 script that does the same work over the same bytes. Each is the best of three runs.
+# python3 script that does the same work over the same bytes. Each is the best of three runs, in processor time.
 #
 #   bench/show_target.sh PROGRAM [CHANGES..]
 set -eu
@@ -12,16 +12,17 @@ here=$(cd "$(dirname "$0")" && pwd)
 folder=$(mktemp -d)
 trap 'rm -rf "$folder"' EXIT
 
-best() { # best COMMAND..: the least of three times, in seconds
+best() { # best COMMAND..: the least processor time of three runs, in seconds
   python3 - "$@" <<'P'
-import subprocess, sys, time
+import resource, subprocess, sys
 times = []
 for _ in range(3):
-    start = time.monotonic()
+    before = resource.getrusage(resource.RUSAGE_CHILDREN)
     with open("/dev/null", "wb") as nowhere:
         subprocess.run(sys.argv[1:], stdout=nowhere, check=True)
-    times.append(time.monotonic() - start)
-print(f"{min(times):.3f}")
+    after = resource.getrusage(resource.RUSAGE_CHILDREN)
+    times.append(after.ru_utime + after.ru_stime - before.ru_utime - before.ru_stime)
+print(f"{min(times):.4f}")
 P
 }
 
