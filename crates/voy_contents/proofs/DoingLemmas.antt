@@ -1,19 +1,20 @@
 -- Changes that are done one after the other.
-use Rattle.std.proofs.Common.{◌≡◌, ◌+◌, ◌<◌, ◌≤◌, ℕ, zero, suc, Bool, true, false, List, [], ◌∷◌, Some, None, length, map, drop, refl, sym, ap, ◌∙◌, subst, arith}
-use Rattle.std.proofs.lemmas.Bool.{and_parts, eqb-false, eqb-true}
+use Rattle.std.proofs.Common.{◌≡◌, ◌+◌, ◌<◌, ◌≤◌, ℕ, zero, suc, Bool, true, false, List, [], ◌∷◌, Option, Some, None, length, map, drop, refl, sym, ap, ◌∙◌, subst, arith}
+use Rattle.std.proofs.lemmas.Bool.{and_parts, eqb-false}
 use Rattle.std.proofs.lemmas.Option.{none-some, same_Some}
 use Rattle.std.specs.List.{list_all}
 use Rattle.std.specs.Prelude.{◌&&◌, nat_eq, slice_get, slice_set, if◌then◌else◌}
 use Rattle.voy_schema.specs.Rows.{key_of}
 use Rattle.voy_schema.specs.declared.table.Table.{Table}
 use Rattle.voy_schema.specs.declared.value.Value.{Value}
-use Rattle.voy_contents.proofs.IndexLemmas.{get_set, length_set}
+use Rattle.voy_contents.proofs.IndexLemmas.{get_set}
 use Rattle.voy_contents.proofs.MisfitLemmas.{misfit_by-none}
+use Rattle.voy_contents.proofs.PreparingLemmas.{get_push, length_push}
 use Rattle.voy_contents.proofs.RowLemmas.{same_key-decides}
 use Rattle.voy_contents.proofs.UndoLemmas.{all_have, goes_below}
 use Rattle.voy_contents.specs.MemTables.{is_in_place, tuples_of}
 use Rattle.voy_contents.specs.Steps.{after_of, before_of, key_changed}
-use Rattle.voy_contents.specs.TableSteps.{AllHavePlaces, AreMemTables, AreTableStepsOf, GoesBack, HasPlacesIn, IsStepDone, IsTableStepOf, StepFits, change_by, lists_of}
+use Rattle.voy_contents.specs.TableSteps.{AllHavePlaces, AreMemTables, GoesBack, HasPlacesIn, HasStepMore, IsStepDone, IsTableStepOf, KeepsLists, StepFits, change_by, lists_of}
 use Rattle.voy_contents.specs.declared.mem_table.MemTable.{MemTable}
 use Rattle.voy_contents.specs.declared.table_step.TableStep.{TableStep}
 use Rattle.voy_tables.specs.Changes.{is_row_of, is_well_formed, key_in, row_change, table_of}
@@ -22,7 +23,9 @@ use Rattle.voy_tables.specs.Lists.{fold_lists, lists_after, misfit_by, misfit_in
 use Rattle.voy_tables.specs.declared.change.Change.{Change}
 use Rattle.voy_tables.specs.declared.change.Change.TheVariants.{Insert, Update, Delete}
 use Rattle.voy_tables.specs.declared.change.Misfit.{Misfit}
+use Rattle.voy_txn.specs.Commits.{HasReason}
 use Rattle.voy_txn.specs.Items.{first_misfit, first_of}
+use Rattle.voy_txn.specs.declared.store_error.StoreError.{StoreError}
 use Rattle.std.proofs.lemmas.List.{drop_all}
 
 -- the misfit of a change is that of its table
@@ -91,23 +94,56 @@ step_fits schema c s lists of well none = record {
 -- all changes up to one place were done, each by its step, and the steps lead back
 pub record AreDoneTo (schema : List Table) (changes : List Change) (old : List MemTable) (at : ℕ) (steps : List TableStep) (tables : List MemTable) : Type 0 where
   pub stand : AreMemTables schema tables
-  pub as_many : length steps ≡ length changes
   pub have : AllHavePlaces steps tables
   pub goes : GoesBack schema steps at (lists_of tables) (lists_of old)
-  pub ahead : (n : ℕ) (s : TableStep) (c : Change) → at ≤ n → slice_get steps n ≡ Some s → slice_get changes n ≡ Some c → IsTableStepOf schema c s
   pub misfit : first_misfit schema (lists_of old) 0 changes ≡ first_misfit schema (lists_of tables) at (drop at changes)
   pub fold : fold_lists schema (lists_of old) (map (row_change schema) changes) ≡ fold_lists schema (lists_of tables) (map (row_change schema) (drop at changes))
 
-pub none_done : (schema : List Table) (changes : List Change) (steps : List TableStep) (tables : List MemTable) → AreMemTables schema tables → AreTableStepsOf schema changes steps → AllHavePlaces steps tables
-    → AreDoneTo schema changes tables 0 steps tables
-none_done schema changes steps tables stand of have = record {
+pub none_done : (schema : List Table) (changes : List Change) (steps : List TableStep) (tables : List MemTable) → AreMemTables schema tables → steps ≡ [] → AreDoneTo schema changes tables 0 steps tables
+none_done schema changes steps tables stand none = record {
   stand = stand;
-  as_many = of.as_many;
-  have = have;
+  have = subst (λ xs. AllHavePlaces xs tables) (sym none) (record { table = λ n s found. absurd (none-some s found); places = λ n s found. absurd (none-some s found) });
   goes = refl;
-  ahead = λ n s c least at_s at_c. of.each n s c at_s at_c;
   misfit = refl;
   fold = refl;
+}
+
+-- the way back by the steps before does not change when there is one more
+goes_on : (schema : List Table) (steps new : List TableStep) (n : ℕ) (lists first : List (List (List Value))) → n ≤ length steps → ((k : ℕ) → k < length steps → slice_get new k ≡ slice_get steps k)
+    → GoesBack schema steps n lists first → GoesBack schema new n lists first
+goes_on schema steps new zero lists first within before goes = goes
+goes_on schema steps new (suc n) lists first within before goes = λ s found.
+    let here = goes s (sym (before n (omega (arith, within))) ∙ found) in
+    (here.0, goes_on schema steps new n (lists_after schema (change_by s) lists) first (omega (arith, within)) before here.1)
+
+-- a list that has all items of another one is at least as long
+pub not_shorter : {A : Type 0} (xs ys : List A) → ((k : ℕ) → k < length xs → slice_get ys k ≡ slice_get xs k) → length xs ≤ length ys
+not_shorter [] ys before = omega arith
+not_shorter (x ∷ xs) [] before = absurd (none-some x (before zero (omega arith)))
+not_shorter (x ∷ xs) (y ∷ ys) before =
+    let rest : length xs ≤ length ys = not_shorter xs ys (λ k below. before (suc k) (omega (arith, below))) in
+    omega (arith, rest)
+
+-- the step that there is more is the one at the end
+pub step_more : (schema : List Table) (c : Change) (steps new : List TableStep) (at : ℕ) (s : TableStep) → HasStepMore schema c steps new → length steps ≡ at → slice_get new at ≡ Some s → IsTableStepOf schema c s
+step_more schema c steps new at s more as_many found = by (nat_eq at (length steps)) refl (sym (get_push steps more.step at) ∙ ap (λ xs. slice_get xs at) (sym more.steps) ∙ found) where
+  by : (b : Bool) → nat_eq at (length steps) ≡ b → (if b then Some more.step else slice_get steps at) ≡ Some s → IsTableStepOf schema c s
+  by true here is = subst (IsTableStepOf schema c) (same_Some more.step s is) more.of
+  by false other is = absurd (eqb-false at (length steps) other (sym as_many))
+
+pub length_more : (schema : List Table) (c : Change) (steps new : List TableStep) (at : ℕ) → HasStepMore schema c steps new → length steps ≡ at → length new ≡ at + 1
+length_more schema c steps new at more as_many = ap length more.steps ∙ length_push steps more.step ∙ ap (λ n. n + 1) as_many
+
+-- one more step was made, and the rows stayed as they are
+pub one_ready : (schema : List Table) (changes : List Change) (old : List MemTable) (at : ℕ) (steps new : List TableStep) (tables after : List MemTable)
+    → AreDoneTo schema changes old at steps tables → length steps ≡ at → KeepsLists tables after → AllHavePlaces new after → ((k : ℕ) → k < length steps → slice_get new k ≡ slice_get steps k)
+    → AreDoneTo schema changes old at new after
+one_ready schema changes old at steps new tables after done as_many keeps have before = record {
+  stand = keeps.stand schema done.stand;
+  have = have;
+  goes = subst (λ lists. GoesBack schema new at lists (lists_of old)) (sym keeps.lists) (goes_on schema steps new at (lists_of tables) (lists_of old) (omega (arith, as_many)) before done.goes);
+  misfit = done.misfit ∙ ap (λ lists. first_misfit schema lists at (drop at changes)) (sym keeps.lists);
+  fold = done.fold ∙ ap (λ lists. fold_lists schema lists (map (row_change schema) (drop at changes))) (sym keeps.lists);
 }
 
 -- the item at a place and those behind it
@@ -118,32 +154,32 @@ drop_at (y ∷ xs) (suc at) x found =
     let more : suc at + 1 ≡ suc (at + 1) = omega arith in
     drop_at xs at x found ∙ ap (λ n. x ∷ drop n (y ∷ xs)) (sym more)
 
-all_at : (p : Change → Bool) (changes : List Change) (at : ℕ) (c : Change) → list_all p changes ≡ true → slice_get changes at ≡ Some c → p c ≡ true
+pub all_at : (p : Change → Bool) (changes : List Change) (at : ℕ) (c : Change) → list_all p changes ≡ true → slice_get changes at ≡ Some c → p c ≡ true
 all_at p [] at c all found = absurd (none-some c found)
 all_at p (x ∷ changes) zero c all found = ap p (sym (same_Some x c found)) ∙ (and_parts (p x) (list_all p changes) all).0
 all_at p (x ∷ changes) (suc at) c all found = all_at p changes at c (and_parts (p x) (list_all p changes) all).1 found
 
--- the first misfit is the one of the change at hand
-pub misfit_here : (schema : List Table) (changes : List Change) (old : List MemTable) (at : ℕ) (steps : List TableStep) (tables : List MemTable) (c : Change) (why : Misfit)
-    → AreDoneTo schema changes old at steps tables → slice_get changes at ≡ Some c → misfit_of schema (row_change schema c) (lists_of tables) ≡ Some why
-    → first_misfit schema (lists_of old) 0 changes ≡ Some (at, why)
-misfit_here schema changes old at steps tables c why done found is =
-    done.misfit ∙ ap (first_misfit schema (lists_of tables) at) (drop_at changes at c found)
-    ∙ ap (λ o. first_of o at (first_misfit schema (lists_after schema (row_change schema c) (lists_of tables)) (suc at) (drop (at + 1) changes))) is
+-- the first misfit is that of the change at hand, if it has one
+pub misfit_here : (schema : List Table) (changes : List Change) (old : List MemTable) (at : ℕ) (steps : List TableStep) (tables : List MemTable) (c : Change) (n : ℕ) (refused : StoreError)
+    → AreDoneTo schema changes old at steps tables → n ≡ at → slice_get changes at ≡ Some c
+    → ((later : Option (ℕ × Misfit)) → HasReason (first_of (misfit_of schema (row_change schema c) (lists_of tables)) n later) refused)
+    → HasReason (first_misfit schema (lists_of old) 0 changes) refused
+misfit_here schema changes old at steps tables c n refused done as_many found reason =
+    let later = first_misfit schema (lists_after schema (row_change schema c) (lists_of tables)) (suc at) (drop (at + 1) changes) in
+    subst (λ m. HasReason m refused) (ap (λ k. first_of (misfit_of schema (row_change schema c) (lists_of tables)) k later) as_many
+    ∙ sym (done.misfit ∙ ap (first_misfit schema (lists_of tables) at) (drop_at changes at c found))) (reason later)
 
 -- one more change was done
 pub one_done : (schema : List Table) (changes : List Change) (old : List MemTable) (at : ℕ) (steps : List TableStep) (tables after : List MemTable) (c : Change) (step back : TableStep)
-    → AreDoneTo schema changes old at steps tables → list_all (is_well_formed schema) changes ≡ true → slice_get changes at ≡ Some c → slice_get steps at ≡ Some step → at < length steps
+    → AreDoneTo schema changes old at steps tables → is_well_formed schema c ≡ true → slice_get changes at ≡ Some c → slice_get steps at ≡ Some step → at < length steps → IsTableStepOf schema c step
     → misfit_of schema (row_change schema c) (lists_of tables) ≡ None
     → length after ≡ length tables → back.table ≡ step.table → HasPlacesIn back after → ((s : TableStep) → HasPlacesIn s tables → HasPlacesIn s after)
     → ((schema : List Table) → AreMemTables schema tables → StepFits schema step (lists_of tables) → IsStepDone schema step back tables after)
     → AreDoneTo schema changes old (at + 1) (slice_set steps at back) after
-one_done schema changes old at steps tables after c step back done well at_c at_step within fits as_many same_table has stays does = record {
+one_done schema changes old at steps tables after c step back done well at_c at_step within of fits as_many same_table has stays does = record {
   stand = one.stand;
-  as_many = length_set steps at back ∙ done.as_many;
   have = all_have steps tables after at back within done.have as_many (subst (λ n. n < length tables) (sym same_table) (done.have.table at step at_step)) has stays;
   goes = subst (λ n. GoesBack schema (slice_set steps at back) n (lists_of after) (lists_of old)) (sym next) back_goes;
-  ahead = λ n s x least at_s at_x. done.ahead n s x (omega (arith, least)) (sym (other n s least) ∙ at_s) at_x;
   misfit = done.misfit ∙ ap (first_misfit schema (lists_of tables) at) (drop_at changes at c at_c)
       ∙ ap (λ o. first_of o at (first_misfit schema (lists_after schema (row_change schema c) (lists_of tables)) (suc at) (drop (at + 1) changes))) fits
       ∙ ap (λ n. first_misfit schema (lists_after schema (row_change schema c) (lists_of tables)) n (drop (at + 1) changes)) (sym next)
@@ -155,25 +191,14 @@ one_done schema changes old at steps tables after c step back done well at_c at_
     next : at + 1 ≡ suc at
     next = omega arith
 
-    of : IsTableStepOf schema c step
-    of = done.ahead at step c (omega arith) at_step at_c
-
     step_fit : StepFits schema step (lists_of tables)
-    step_fit = step_fits schema c step (lists_of tables) of (all_at (is_well_formed schema) changes at c well at_c) fits
+    step_fit = step_fits schema c step (lists_of tables) of well fits
 
     one : IsStepDone schema step back tables after
     one = does schema done.stand step_fit
 
     lists_is : lists_of after ≡ lists_after schema (row_change schema c) (lists_of tables)
     lists_is = one.lists ∙ lists_after-step schema c step (lists_of tables) of
-
-    other : (n : ℕ) (s : TableStep) → at + 1 ≤ n → slice_get (slice_set steps at back) n ≡ slice_get steps n
-    other n s least = get_set steps at n back within ∙ by (nat_eq n at) refl where
-      by : (b : Bool) → nat_eq n at ≡ b → (if b then Some back else slice_get steps n) ≡ slice_get steps n
-      by true is =
-          let equal : n ≡ at = eqb-true n at is in
-          absurd (omega (arith, least, equal))
-      by false is = refl
 
     here : slice_get (slice_set steps at back) at ≡ Some back
     here = get_set steps at at back within ∙ by (nat_eq at at) refl where

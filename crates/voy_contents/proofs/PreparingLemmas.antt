@@ -12,7 +12,7 @@ use Rattle.voy_contents.proofs.IndexLemmas.{get_set, length_set}
 use Rattle.voy_contents.proofs.MemTableLemmas.{length_map}
 use Rattle.voy_contents.proofs.TableStepLemmas.{lists_of-at, lists_of-set, places_stay}
 use Rattle.voy_contents.specs.MemTables.{IsMemTable, KeepsRows, SweepsRows, rows_of, tuples_of}
-use Rattle.voy_contents.specs.TableSteps.{AllHavePlaces, AreMemTables, AreTableStepsOf, HasPlacesAt, HasPlacesIn, IsTableStepOf, KeepsLists, SweepsLists, lists_of}
+use Rattle.voy_contents.specs.TableSteps.{AllHavePlaces, AreMemTables, HasPlacesAt, HasPlacesIn, IsTableStepOf, KeepsLists, SweepsLists, lists_of}
 use Rattle.voy_contents.specs.declared.mem_table.MemTable.{MemTable}
 use Rattle.voy_contents.specs.declared.table_step.TableStep.{TableStep}
 use Rattle.voy_tables.specs.Changes.{is_row_of, is_well_formed, table_of}
@@ -69,34 +69,6 @@ lists_kept tables at before after within was keeps = record {
     swept : SweepsLists tables (slice_set tables at after)
     swept = lists_swept tables at before after within was (record { rows = keeps.rows; stands = keeps.stands })
 
-pub all_kept : (tables : List MemTable) → KeepsLists tables tables
-all_kept tables = record { lists = refl; stand = λ schema stand. stand; places = λ s has. has; as_many = refl }
-
-pub kept_on : (a b c : List MemTable) → KeepsLists a b → KeepsLists b c → KeepsLists a c
-kept_on a b c first second = record {
-  lists = second.lists ∙ first.lists;
-  stand = λ schema stand. second.stand schema (first.stand schema stand);
-  places = λ s has. second.places s (first.places s has);
-  as_many = second.as_many ∙ first.as_many;
-}
-
--- the changes up to one place have their steps
-pub record ArePreparedTo (schema : List Table) (changes : List Change) (old : List MemTable) (at : ℕ) (steps : List TableStep) (tables : List MemTable) : Type 0 where
-  pub keeps : KeepsLists old tables
-  pub as_many : length steps ≡ at
-  pub each : (n : ℕ) (s : TableStep) (c : Change) → slice_get steps n ≡ Some s → slice_get changes n ≡ Some c → IsTableStepOf schema c s
-  pub have : (n : ℕ) (s : TableStep) → slice_get steps n ≡ Some s → HasPlacesIn s tables
-  pub there : (n : ℕ) (s : TableStep) → slice_get steps n ≡ Some s → s.table < length tables
-
-pub none_prepared : (schema : List Table) (changes : List Change) (tables : List MemTable) → ArePreparedTo schema changes tables 0 [] tables
-none_prepared schema changes tables = record {
-  keeps = all_kept tables;
-  as_many = refl;
-  each = λ n s c at_s at_c. absurd (none-some s at_s);
-  have = λ n s at_s. absurd (none-some s at_s);
-  there = λ n s at_s. absurd (none-some s at_s);
-}
-
 -- an item of a list with one more at its end
 pub get_push : {A : Type 0} (xs : List A) (x : A) (n : ℕ) → slice_get (xs ++ x ∷ []) n ≡ (if nat_eq n (length xs) then Some x else slice_get xs n)
 get_push [] x zero = refl
@@ -110,41 +82,45 @@ length_push (y ∷ xs) x =
     let more : suc (length xs + 1) ≡ suc (length xs) + 1 = omega arith in
     ap suc (length_push xs x) ∙ more
 
--- one more change has its step
-pub one_prepared : (schema : List Table) (changes : List Change) (old : List MemTable) (at : ℕ) (steps : List TableStep) (tables after : List MemTable) (c : Change) (step : TableStep)
-    → ArePreparedTo schema changes old at steps tables → AreMemTables schema old → slice_get changes at ≡ Some c → KeepsLists tables after → IsTableStepOf schema c step → HasPlacesIn step after
-    → ArePreparedTo schema changes old (at + 1) (steps ++ step ∷ []) after
-one_prepared schema changes old at steps tables after c step prepared stand at_c keeps of has = record {
-  keeps = kept_on old tables after prepared.keeps keeps;
-  as_many = length_push steps step ∙ ap (λ n. n + 1) prepared.as_many;
-  each = λ n s x at_s at_x. each_of n (nat_eq n (length steps)) refl s x (sym (get_push steps step n) ∙ at_s) at_x;
-  have = λ n s at_s. have_of n (nat_eq n (length steps)) s (sym (get_push steps step n) ∙ at_s);
-  there = λ n s at_s. there_of n (nat_eq n (length steps)) s (sym (get_push steps step n) ∙ at_s);
-}
+-- the items before stay when there is one more at the end
+pub before_stay : {A : Type 0} (xs new : List A) (x : A) → new ≡ xs ++ x ∷ [] → (n : ℕ) → n < length xs → slice_get new n ≡ slice_get xs n
+before_stay xs new x is n below = ap (λ ys. slice_get ys n) is ∙ get_push xs x n ∙ by (nat_eq n (length xs)) refl where
+  by : (b : Bool) → nat_eq n (length xs) ≡ b → (if b then Some x else slice_get xs n) ≡ slice_get xs n
+  by true same =
+      let equal : n ≡ length xs = eqb-true n (length xs) same in
+      absurd (omega (arith, below, equal))
+  by false other = refl
+
+-- steps keep their places
+pub all_keep : (steps new : List TableStep) (tables after : List MemTable) → new ≡ steps → KeepsLists tables after → AllHavePlaces steps tables → AllHavePlaces new after
+all_keep steps new tables after is keeps have = subst (λ xs. AllHavePlaces xs after) (sym is) (record {
+  table = λ n s found. subst (λ k. s.table < k) (sym keeps.as_many) (have.table n s found);
+  places = λ n s found. keeps.places s (have.places n s found);
+})
+
+-- one more step has its places
+pub one_more : (schema : List Table) (c : Change) (steps new : List TableStep) (tables after : List MemTable) (step : TableStep)
+    → new ≡ steps ++ step ∷ [] → AreMemTables schema tables → KeepsLists tables after → IsTableStepOf schema c step → HasPlacesIn step after → AllHavePlaces steps tables → AllHavePlaces new after
+one_more schema c steps new tables after step is stand keeps of has have = subst (λ xs. AllHavePlaces xs after) (sym is) (record {
+  table = λ n s found. table_of (nat_eq n (length steps)) n s (sym (get_push steps step n) ∙ found);
+  places = λ n s found. places_of (nat_eq n (length steps)) n s (sym (get_push steps step n) ∙ found);
+})
   where
-    each_of : (n : ℕ) (b : Bool) → nat_eq n (length steps) ≡ b → (s : TableStep) (x : Change) → (if b then Some step else slice_get steps n) ≡ Some s → slice_get changes n ≡ Some x → IsTableStepOf schema x s
-    each_of n true is s x at_s at_x =
-        let same : c ≡ x = same_Some c x (sym at_c ∙ ap (slice_get changes) (sym (eqb-true n (length steps) is ∙ prepared.as_many)) ∙ at_x) in
-        subst (IsTableStepOf schema x) (same_Some step s at_s) (subst (λ z. IsTableStepOf schema z step) same of)
-    each_of n false is s x at_s at_x = prepared.each n s x at_s at_x
+    kept : AllHavePlaces steps after
+    kept = all_keep steps steps tables after refl keeps have
 
-    have_of : (n : ℕ) (b : Bool) (s : TableStep) → (if b then Some step else slice_get steps n) ≡ Some s → HasPlacesIn s after
-    have_of n true s at_s = subst (λ z. HasPlacesIn z after) (same_Some step s at_s) has
-    have_of n false s at_s = keeps.places s (prepared.have n s at_s)
-
-    step_there : step.table < length after
-    step_there =
+    there : step.table < length after
+    there =
         let within : step.table < length schema = slice_get_within schema step.table of.of of.found in
-        omega (arith, within, stand.as_many, prepared.keeps.as_many, keeps.as_many)
+        omega (arith, within, stand.as_many, keeps.as_many)
 
-    there_of : (n : ℕ) (b : Bool) (s : TableStep) → (if b then Some step else slice_get steps n) ≡ Some s → s.table < length after
-    there_of n true s at_s = subst (λ (z : TableStep). z.table < length after) (same_Some step s at_s) step_there
-    there_of n false s at_s = subst (λ n. s.table < n) (sym keeps.as_many) (prepared.there n s at_s)
+    table_of : (b : Bool) (n : ℕ) (s : TableStep) → (if b then Some step else slice_get steps n) ≡ Some s → s.table < length after
+    table_of true n s found = subst (λ (x : TableStep). x.table < length after) (same_Some step s found) there
+    table_of false n s found = kept.table n s found
 
-pub all_prepared : (schema : List Table) (changes : List Change) (old : List MemTable) (at : ℕ) (steps : List TableStep) (tables : List MemTable) → ArePreparedTo schema changes old at steps tables
-    → at ≡ length changes → AreTableStepsOf schema changes steps × AllHavePlaces steps tables
-all_prepared schema changes old at steps tables prepared all =
-    (record { as_many = prepared.as_many ∙ all; each = prepared.each }, record { table = prepared.there; places = prepared.have })
+    places_of : (b : Bool) (n : ℕ) (s : TableStep) → (if b then Some step else slice_get steps n) ≡ Some s → HasPlacesIn s after
+    places_of true n s found = subst (λ x. HasPlacesIn x after) (same_Some step s found) has
+    places_of false n s found = kept.places n s found
 
 -- a table has an index for each tuple of a row
 pub tuples_long : (t : Table) (m : MemTable) (row : Option (List Value)) (tuples : List (Option (List Value))) → IsMemTable t m.rows m.indexes → tuples ≡ tuples_of t row → length tuples ≡ length m.indexes

@@ -1,5 +1,5 @@
 -- The tables in memory of a schema, and steps of them.
-use Rattle.std.specs.Prelude.{◌≡◌, ◌<◌, ℕ, zero, suc, List, Some, None, length, map, slice_get}
+use Rattle.std.specs.Prelude.{◌≡◌, ◌<◌, ◌++◌, ℕ, zero, suc, List, [], ◌∷◌, Some, None, length, map, slice_get}
 use Rattle.voy_schema.specs.declared.table.Table.{Table}
 use Rattle.voy_schema.specs.declared.value.Value.{Value}
 use Rattle.voy_contents.specs.MemTables.{IsMemTable, rows_of}
@@ -68,10 +68,11 @@ pub record IsTableStepOf (schema : List Table) (c : Change) (s : TableStep) : Ty
   pub table : s.table ≡ table_of c
   pub step : IsStepOf of c s.step
 
--- each of these steps does the change at its place
-pub record AreTableStepsOf (schema : List Table) (changes : List Change) (steps : List TableStep) : Type 0 where
-  pub as_many : length steps ≡ length changes
-  pub each : (n : ℕ) (s : TableStep) (c : Change) → slice_get steps n ≡ Some s → slice_get changes n ≡ Some c → IsTableStepOf schema c s
+-- there is one more step, behind the others, and it does this change
+pub record HasStepMore (schema : List Table) (c : Change) (old new : List TableStep) : Type 0 where
+  pub step : TableStep
+  pub steps : new ≡ old ++ step ∷ []
+  pub of : IsTableStepOf schema c step
 
 -- all rows are the same, tables that stood stand, and all places that were there are there
 pub record KeepsLists (old new : List MemTable) : Type 0 where

@@ -11,8 +11,7 @@ ghost use Rattle.voy_txn.specs.declared.store_error.StoreError.TheVariants.{Faul
 
 use crate::doing::do_all;
 use crate::mem_table::MemTable;
-use crate::preparing::prepare_all;
-use crate::sweeping::sweep;
+use crate::sweeping::{sweep, sweep_last};
 use crate::table_step::{MemTables, TableStep};
 use std::alloc::{AllocError, Global};
 use std::mem::replace;
@@ -52,15 +51,14 @@ pub(crate) fn apply(
     ensures never { IfErr result (λ error. error ≢ Fault) }
     ensures kept { OnErr result (lists_of tables.new ≡ lists_of tables.old) }
 {
-    match prepare_all(alloc, schema, tables, changes) {
-        Err(_refused) => Err(StoreError::NoMemory),
-        Ok(mut steps) => match do_all(schema, tables, changes, &mut steps) {
-            Ok(()) => Ok(steps),
-            Err(refused) => {
-                sweep(tables, &steps);
-                Err(refused)
-            }
-        },
+    let mut steps = Items::new(alloc);
+    match do_all(alloc, schema, tables, changes, &mut steps) {
+        Ok(()) => Ok(steps),
+        Err(refused) => {
+            sweep(tables, &steps);
+            sweep_last(tables, &steps);
+            Err(refused)
+        }
     }
 }
 

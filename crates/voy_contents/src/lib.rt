@@ -11,10 +11,11 @@
 //!    [`MemContents::undo`] gives back exactly what was known (`back`).
 //! 3. [`MemContents::sweep`] takes away places that hold nothing any more.
 //!
-//! Only the first takes memory: it makes each place that it and the others need before it changes a row. A row
-//! that is changed keeps in its step the one that stood there, so the same step done again sets it back. Each
-//! unique key has an index, which says of each tuple what a scan of the rows would say (`Agrees` of
-//! `specs/MemTables.antt`). The tables are clean at each moment: `known_are_clean` of `specs/KnownLaws.antt`.
+//! Only the first takes memory. It goes over the items once: it makes the places that the change of an item needs,
+//! also to be done back, and then does it. Where one is refused, those before it are done back. The step of a
+//! change that was done has the row that stood there, so the same step done again sets it back. Each unique key
+//! has an index, which says of each tuple what a scan of the rows would say (`Agrees` of `specs/MemTables.antt`).
+//! The tables are clean at each moment: `known_are_clean` of `specs/KnownLaws.antt`.
 #![tactic(auto)]
 
 mod applying;

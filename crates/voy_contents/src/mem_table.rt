@@ -181,9 +181,20 @@ impl MemTable {
         swap(&mut step.from, &mut step.to);
     }
 
+    /// Takes away the places that the step, done or done back, left with nothing: its key's where it took a row
+    /// away, which it has now, and those of the tuples of that row. The rows stay as they are. It takes no memory.
+    pub(crate) fn sweep(&mut self, step: &Step)
+        ensures { SweepsRows self.old.rows self.old.indexes self.new.rows self.new.indexes }
+    {
+        if step.row.is_some() {
+            self.sweep_row(&step.key);
+        }
+        self.sweep_tuples(&step.to);
+    }
+
     /// Takes away the places that the step names and that hold nothing. The rows stay as they are. It takes
     /// no memory.
-    pub(crate) fn sweep(&mut self, step: &Step)
+    pub(crate) fn sweep_named(&mut self, step: &Step)
         ensures { SweepsRows self.old.rows self.old.indexes self.new.rows self.new.indexes }
     {
         self.sweep_row(&step.key);

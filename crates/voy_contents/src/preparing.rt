@@ -1,6 +1,5 @@
-ghost use Rattle.std.specs.Prelude.{◌≡◌, true, IfOk};
-ghost use Rattle.std.specs.List.{list_all};
-ghost use Rattle.voy_contents.specs.TableSteps.{AllHavePlaces, AreMemTables, AreTableStepsOf, HasPlacesIn, IsTableStepOf, KeepsLists};
+ghost use Rattle.std.specs.Prelude.{◌≡◌, ◌<◌, ℕ, true, length, slice_get, IfOk, OnOk};
+ghost use Rattle.voy_contents.specs.TableSteps.{AllHavePlaces, AreMemTables, HasPlacesIn, HasStepMore, IsTableStepOf, KeepsLists};
 ghost use Rattle.voy_tables.specs.Changes.{is_well_formed};
 
 use crate::step::Step;
@@ -9,29 +8,30 @@ use std::alloc::{AllocError, Global};
 use voy_schema::{Items, Schema};
 use voy_tables::Change;
 
-/// The steps of the changes, with the places that they need made in the tables. The rows stay as they are,
-/// whatever it answers.
-pub(crate) fn prepare_all(
+/// Puts the step of `change` behind the others, with the places that it needs made in the tables. The rows
+/// stay as they are, whatever it answers.
+pub(crate) fn prepare(
     alloc: Global,
     schema: &Schema,
     tables: &mut MemTables,
-    changes: &[Change],
-) -> Result<Items<TableStep>, AllocError>
+    change: &Change,
+    steps: &mut Items<TableStep>,
+) -> Result<(), AllocError>
     requires stand { AreMemTables schema.now.tables tables.old }
-    requires well { list_all (is_well_formed schema.now.tables) changes.now ≡ true }
+    requires well { is_well_formed schema.now.tables change.now ≡ true }
+    requires places { AllHavePlaces steps.old tables.old }
     ensures keeps { KeepsLists tables.old tables.new }
-    ensures steps { IfOk result (AreTableStepsOf schema.now.tables changes.now) }
-    ensures places { IfOk result (λ steps. AllHavePlaces steps tables.new) }
+    ensures places { AllHavePlaces steps.new tables.new }
+    ensures before { (n : ℕ) → n < length steps.old → slice_get steps.new n ≡ slice_get steps.old n }
+    ensures step { OnOk result (HasStepMore schema.now.tables change.now steps.old steps.new) }
 {
-    let mut steps = Items::new(alloc);
-    for change in changes {
-        let step = prepare(alloc, schema, tables, change)?;
-        steps.push(step)?;
-    }
-    Ok(steps)
+    let step = make_step(alloc, schema, tables, change)?;
+    steps.push(step)?;
+    Ok(())
 }
 
-fn prepare(
+/// The step of `change`, with its places made.
+fn make_step(
     alloc: Global,
     schema: &Schema,
     tables: &mut MemTables,
