@@ -1,5 +1,5 @@
 -- How the bytes of a file are read as a journal.
-use Rattle.std.specs.Prelude.{◌≡◌, ◌≢◌, ◌≤◌, ◌<◌, ◌+◌, ◌⊎◌, ◌==◌, ◌||◌, ℕ, zero, suc, List, [], ◌∷◌, ◌++◌, length, take, drop, Option, Some, None, nat_lt, nat_le, if◌then◌else◌}
+use Rattle.std.specs.Prelude.{◌≡◌, ◌≢◌, ◌≤◌, ◌<◌, ◌+◌, ◌^◌, ◌⊎◌, ◌==◌, ◌||◌, ℕ, zero, suc, List, [], ◌∷◌, ◌++◌, length, take, drop, Option, Some, None, nat_lt, nat_le, if◌then◌else◌}
 use Rattle.std.specs.Int.{w32, to_be_bytes, from_be_bytes}
 use Rattle.std.specs.Option.{option_map, option_and_then}
 use Rattle.voy_journal.specs.declared.limits.TheConstants.{MAX_PAYLOAD_BYTES}
@@ -14,6 +14,12 @@ entries (payload ∷ payloads) = 1 ∷ (to_be_bytes w32 (length payload) ++ (pay
 abbrev pub Fit : List (List ℕ) → Type 0
 Fit [] = Unit {0}
 Fit (payload ∷ payloads) = (length payload ≤ MAX_PAYLOAD_BYTES) × Fit payloads
+
+-- payloads that a file can have: none is too long, and with their gates and lengths they have fewer than
+-- 2 ^ 63 bytes
+pub record FitAFile (payloads : List (List ℕ)) : Type 0 where
+  pub fit : Fit payloads
+  pub short : length (entries payloads) < 2 ^ 63
 
 -- these payloads, then a closed gate, then anything
 pub record Holds (payloads : List (List ℕ)) (bytes : List ℕ) : Type 0 where

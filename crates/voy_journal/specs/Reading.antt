@@ -25,6 +25,12 @@ Takes (Payload payload) old new = new + (5 + vec_len payload) ≤ old
 Takes Closed old new = new < old
 Takes Broken old new = Unit {0}
 
+-- a payload that was read is no longer than one may be, on any disk
+abbrev pub IsShort : Next → Type 0
+IsShort (Payload payload) = vec_len payload ≤ MAX_PAYLOAD_BYTES
+IsShort Closed = Unit {0}
+IsShort Broken = Unit {0}
+
 -- the bytes hold these payloads, with the closed gate at the place that was found
 pub record HoldsUpTo (found : Found) (bytes : List ℕ) : Type 0 where
   pub holds : Holds found.payloads bytes

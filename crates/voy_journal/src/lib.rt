@@ -33,7 +33,7 @@ mod tests;
 
 pub use error::JournalError;
 pub use laws::one_reading;
-pub use limits::MAX_PAYLOAD_BYTES;
+pub use limits::{HEAD_BYTES, MAX_PAYLOAD_BYTES};
 pub use opened::Opened;
 pub use payloads::Payloads;
 pub use state::Journal;

@@ -11,7 +11,7 @@ pub(crate) const OPEN_GATE: u8 = 1;
 pub(crate) const CLOSED_GATE: u8 = 0;
 
 /// How many bytes stand in front of a payload: its gate and its length.
-pub(crate) const HEAD_BYTES: u64 = 5;
+pub const HEAD_BYTES: u64 = 5;
 
 /// How many bytes an append writes behind the closed gate beside the payload: its length and the next gate.
 pub(crate) const BLOCK_BYTES: usize = 5;

@@ -4,7 +4,7 @@ ghost use Rattle.voy_disk.specs.Faults.{HasCause};
 ghost use Rattle.voy_disk.specs.Files.{IfTold, bytes_now};
 ghost use Rattle.voy_disk.specs.Images.{ImagesOf};
 ghost use Rattle.voy_disk.specs.Steps.{Follows, StaysTold};
-ghost use Rattle.voy_journal.specs.Grammar.{DamagedAt, HasPayloads};
+ghost use Rattle.voy_journal.specs.Grammar.{DamagedAt, FitAFile, HasPayloads};
 ghost use Rattle.voy_journal.specs.Journal.{HasJournal, KeepsOtherFiles, KeepsPayloads, StandsAt, StandsOn, is_live, journal_name, known_payloads};
 ghost use Rattle.voy_journal.specs.Storing.{Settles};
 
@@ -33,6 +33,8 @@ impl Journal {
         ensures stands { IfOk result (λ opened. StandsOn opened.journal (D.files disk.new)) }
         ensures live { IfOk result (λ opened. IsTrue (is_live opened.journal)) }
         ensures name { IfOk result (λ opened. journal_name opened.journal ≡ name) }
+        // on any disk, also one that tells nothing
+        ensures fits { IfOk result (λ opened. FitAFile opened.payloads) }
         // whatever it answers
         ensures images { Follows (KeepsPayloads name) (ImagesOf (D.files disk.old)) (ImagesOf (D.files disk.new)) }
         ensures others { Change (KeepsOtherFiles name) (D.files disk.old) (D.files disk.new) }
@@ -59,6 +61,7 @@ fn settle_and_read<D: Disk>(alloc: Global, disk: &mut D, name: &Name) -> Result<
     ensures payloads { IfOk result (λ found. IfTold (D.files disk.old) (λ fs. HasPayloads found.payloads (bytes_now (fs name.now)))) }
     ensures stands { IfOk result (λ found. IfTold (D.files disk.new) (StandsAt name.now found.gate found.payloads)) }
     ensures place { IfOk result (λ found. found.gate + 1 < 2 ^ 63) }
+    ensures fits { IfOk result (λ found. FitAFile found.payloads) }
     ensures images { Follows (KeepsPayloads name.now) (ImagesOf (D.files disk.old)) (ImagesOf (D.files disk.new)) }
     ensures others { Change (KeepsOtherFiles name.now) (D.files disk.old) (D.files disk.new) }
     ensures lender { D.lender disk.new ≡ D.lender disk.old }

@@ -1,8 +1,8 @@
 ghost use Rattle.std.specs.Prelude.{◌≡◌, ◌≤◌, ◌<◌, ◌+◌, ◌^◌, ℕ, length, vec_len, IfErr, IfOk, IfSome, MatchOption};
 ghost use Rattle.voy_disk.specs.Faults.{HasCause};
-ghost use Rattle.voy_journal.specs.Grammar.{DamagedAt, IsBroken};
+ghost use Rattle.voy_journal.specs.Grammar.{DamagedAt, FitAFile, IsBroken};
 ghost use Rattle.voy_journal.specs.Reader.{OfBytes, bytes_left, unread};
-ghost use Rattle.voy_journal.specs.Reading.{HoldsUpTo, IsEntry, Meets, Takes};
+ghost use Rattle.voy_journal.specs.Reading.{HoldsUpTo, IsEntry, IsShort, Meets, Takes};
 
 use crate::error::JournalError;
 use crate::limits::{HEAD_BYTES, MAX_PAYLOAD_BYTES, OPEN_GATE};
@@ -41,6 +41,7 @@ pub(crate) fn read_payloads<D: Disk>(
     ensures found { IfOk result (λ found. OfBytes (D.files disk.old) name.now (λ bytes.
         length bytes ≡ end → 1 < end → HoldsUpTo found bytes)) }
     ensures place { IfOk result (λ found. found.gate < end) }
+    ensures fits { IfOk result (λ found. FitAFile found.payloads) }
     ensures damaged { IfErr result (λ error. (offset : ℕ) → error ≡ JournalError.Damaged offset → OfBytes (D.files disk.old) name.now (λ bytes.
         length bytes ≡ end → 1 < end → DamagedAt offset bytes)) }
     ensures never_long { IfErr result (λ error. error ≡ JournalError.TooLong → ⊥) }
@@ -68,6 +69,7 @@ fn next_of<D: Disk>(reader: &mut Reader, disk: &mut D, name: &Name) -> Result<Ne
     ensures meets { IfOk result (λ next. OfBytes (D.files disk.old) name.now (λ bytes.
         0 < length (unread reader.old bytes) → Meets next (unread reader.old bytes) (unread reader.new bytes))) }
     ensures fewer { IfOk result (λ next. Takes next (bytes_left reader.old) (bytes_left reader.new)) }
+    ensures short { IfOk result (λ next. IsShort next) }
     ensures same { D.files disk.new ≡ D.files disk.old }
     ensures cause { HasCause DiskError.Failed (D.faults disk.old) (D.faults disk.new) result }
     ensures lender { D.lender disk.new ≡ D.lender disk.old }
@@ -93,6 +95,7 @@ fn entry_of<D: Disk>(
     ensures entry { IfOk result (λ found. OfBytes (D.files disk.old) name.now (λ bytes.
         MatchOption found (IsBroken (unread reader.old bytes)) (λ payload. IsEntry payload.items (unread reader.old bytes) (unread reader.new bytes)))) }
     ensures fewer { IfOk result (λ found. IfSome found (λ payload. bytes_left reader.new + (4 + vec_len payload) ≤ bytes_left reader.old)) }
+    ensures short { IfOk result (λ found. IfSome found (λ payload. vec_len payload ≤ MAX_PAYLOAD_BYTES)) }
     ensures same { D.files disk.new ≡ D.files disk.old }
     ensures cause { HasCause DiskError.Failed (D.faults disk.old) (D.faults disk.new) result }
     ensures lender { D.lender disk.new ≡ D.lender disk.old }

@@ -1,12 +1,13 @@
 use Rattle.std.proofs.Common.{◌≡◌, ◌<◌, ◌+◌, ◌≤◌, length}
 use Rattle.voy_journal.specs.Reader.{OfBytes, bytes_left, unread}
-use Rattle.voy_journal.proofs.Progress.{HasRead}
+use Rattle.voy_journal.proofs.Progress.{AreRead, HasRead}
 use Rattle.voy_journal.proofs.reading.read_payloads.Given as goal
 
 abbrev pub invariant-gates : goal.invariant-gates
 invariant-gates g l = record {
   so_far : OfBytes (g.D.Disk.files l.fn.disk) l.fn.name (λ bytes.
-      length bytes ≡ l.fn.end → 1 < l.fn.end → HasRead l.payloads l.gate bytes (unread l.reader bytes));
+      length bytes ≡ l.fn.end → 1 < l.fn.end → HasRead l.payloads bytes (unread l.reader bytes));
+  read : AreRead l.payloads l.gate;
   fewer : l.gate + bytes_left l.reader ≤ l.fn.end;
   same : g.D.Disk.files l.disk ≡ g.D.Disk.files l.fn.disk;
   later : g.D.Disk.faults l.fn.disk ≤ g.D.Disk.faults l.disk;
