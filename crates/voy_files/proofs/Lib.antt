@@ -1,3 +1,4 @@
+pub mod Feeds
 pub mod Finding
 pub mod Pieces
 pub mod Reading

@@ -5,7 +5,7 @@ use Rattle.voy_disk.specs.Files.{Files, bytes_now}
 use Rattle.voy_files.specs.Lines.{is_one_line}
 use Rattle.voy_files.specs.Reader.{IsRead, IsSameFile, TakesPiece, bytes_left, found_line, held, unread}
 use Rattle.voy_files.specs.declared.line_reader.LineReader.{LineReader}
-use Rattle.voy_files.proofs.Pieces.{is_one_line-append}
+use Rattle.voy_files.proofs.Feeds.{is_one_line-append}
 
 -- the same bytes as before are the line so far, and the same are left
 pub still_read : (start line line' left left' : List ℕ) → line' ≡ line → left' ≡ left → IsRead start line left → IsRead start line' left'
@@ -13,7 +13,7 @@ still_read start line line' left left' same_line same_left read = rw (same_line,
 
 -- what stands behind the piece stays in the same file
 same_behind : (fs : Files) (old new : LineReader) → IsSameFile old new
-    → drop new.at (take new.end (bytes_now (fs new.name))) ≡ drop old.at (take old.end (bytes_now (fs old.name)))
+    → drop new.bytes.at (take new.bytes.end (bytes_now (fs new.name))) ≡ drop old.bytes.at (take old.bytes.end (bytes_now (fs old.name)))
 same_behind fs old new same = rw (same.name, same.at, same.end) refl
 
 -- bytes moved from the held ones behind the line
@@ -65,7 +65,7 @@ gets_longer ended old new took is =
     omega (arith, ap length took.line, length-append (found_line old) took.bytes, all.2)
 
 -- the bytes behind the piece are as many as before
-as_many_behind : (old new : LineReader) → IsSameFile old new → new.end - new.at ≡ old.end - old.at
+as_many_behind : (old new : LineReader) → IsSameFile old new → new.bytes.end - new.bytes.at ≡ old.bytes.end - old.bytes.at
 as_many_behind old new same = rw (same.end, same.at) refl
 
 -- bytes of a piece that stand behind the line are no longer left

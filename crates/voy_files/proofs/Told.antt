@@ -6,8 +6,3 @@ use Rattle.voy_disk.specs.Files.{Files, Told}
 pub told_from : (files : Option Files) (P : Files → Type 0) → ((fs : Files) → files ≡ Some fs → P fs) → Told files P
 told_from None P holds = tt
 told_from (Some fs) P holds = holds fs refl
-
--- what follows from a fact that is told is told
-pub told_then : (files : Option Files) (P Q : Files → Type 0) → ((fs : Files) → P fs → Q fs) → Told files P → Told files Q
-told_then None P Q f told = tt
-told_then (Some fs) P Q f told = f fs told

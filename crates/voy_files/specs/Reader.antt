@@ -1,6 +1,7 @@
 -- What a reader of lines has left, and what it finds.
-use Rattle.std.specs.Prelude.{◌≡◌, ◌≤◌, ◌<◌, ◌+◌, ◌-◌, ℕ, Bool, true, MatchBool, List, [], ◌∷◌, ◌++◌, length, take, drop}
+use Rattle.std.specs.Prelude.{◌≡◌, ◌≤◌, ◌<◌, ℕ, Bool, true, MatchBool, List, [], ◌∷◌, ◌++◌, length}
 use Rattle.voy_disk.specs.Files.{Files, bytes_now}
+use Rattle.voy_files.specs.Bytes as pieces
 use Rattle.voy_files.specs.Lines.{is_one_line, lines_of}
 use Rattle.voy_files.specs.declared.line_reader.Found.{Found}
 use Rattle.voy_files.specs.declared.line_reader.Found.TheVariants.{Line, TooLong, End}
@@ -16,15 +17,15 @@ line_limit r = r.limit
 
 -- bytes of the piece that were not given yet
 abbrev pub held : LineReader → List ℕ
-held r = drop r.from r.piece.items
+held r = pieces.held r.bytes
 
 -- bytes of the file that the reader has not given yet
 abbrev pub unread : LineReader → Files → List ℕ
-unread r files = held r ++ drop r.at (take r.end (bytes_now (files r.name)))
+unread r files = pieces.unread r.bytes (bytes_now (files r.name))
 
 -- at most how many bytes are left to give
 abbrev pub bytes_left : LineReader → ℕ
-bytes_left r = length (held r) + (r.end - r.at)
+bytes_left r = pieces.bytes_left r.bytes
 
 -- what a reader found in front of the bytes that were left, with the limit and the line that it gives
 abbrev pub Finds : Found → ℕ → List ℕ → List ℕ → List ℕ → Type 0
@@ -35,8 +36,8 @@ Finds End limit line old new = old ≡ []
 -- the same place in the same file, with the same limit
 pub record IsSameFile (old new : LineReader) : Type 0 where
   pub name : new.name ≡ old.name
-  pub at : new.at ≡ old.at
-  pub end : new.end ≡ old.end
+  pub at : new.bytes.at ≡ old.bytes.at
+  pub end : new.bytes.end ≡ old.bytes.end
   pub limit : new.limit ≡ old.limit
 
 -- the line has got bytes of the piece: those in front of a line feed, or all that were left

@@ -1,18 +1,20 @@
-//! Files of any disk, read whole or line by line.
+//! Files of any disk, read whole, line by line or byte by byte.
 //!
-//! [`read_file`] reads a small file whole. A [`LineReader`] goes through a file of any size in pieces of
-//! 65,536 bytes and holds one line at a time, of at most the number of bytes that it was opened with.
+//! [`read_file`] reads a small file whole. A [`ByteReader`] goes through a file of any size in pieces of
+//! 65,536 bytes, and gives bytes and numbers. Its clauses `taken` say that they stand in front of what is
+//! left, where the disk tells its files. A [`LineReader`] goes through a file the same way and holds one
+//! line at a time, of at most the number of bytes that it was opened with.
 //! Its clause `found` says that what it gives are the lines of the file, one after the other, where the
 //! disk tells its files. Its clause `shrinks` says that each line leaves fewer bytes, on any disk: a loop
 //! over the lines has `bytes_left` as its measure.
 #![tactic(auto)]
 
+mod byte_reader;
 mod line_reader;
-mod piece;
 #[cfg(test)]
 mod tests;
 mod whole;
 
+pub use byte_reader::{ByteReader, PIECE_BYTES};
 pub use line_reader::{Found, LineReader};
-pub use piece::PIECE_BYTES;
 pub use whole::read_file;

@@ -1,6 +1,6 @@
-ghost use Rattle.std.specs.Prelude.{◌≡◌, ◌==◌, ◌≤◌, length, drop, position};
+ghost use Rattle.std.specs.Prelude.{◌≡◌, ◌==◌, position};
 
-use crate::piece::{PIECE_BYTES, read_piece, smaller};
+use crate::byte_reader::ByteReader;
 use std::alloc::{AllocError, Global};
 use voy_disk::{Disk, DiskError, Name};
 
@@ -25,13 +25,7 @@ pub enum Found {
 #[derive(Debug, Drop)]
 pub struct LineReader {
     pub(crate) name: Name,
-    /// The place in the file of the next byte to read.
-    pub(crate) at: u64,
-    /// Bytes from here on are not read.
-    pub(crate) end: u64,
-    /// Bytes that were read last, of which those from `from` on were not given yet.
-    pub(crate) piece: Vec<u8>,
-    pub(crate) from: usize,
+    pub(crate) bytes: ByteReader,
     pub(crate) line: Vec<u8>,
     pub(crate) limit: usize,
 }
@@ -58,15 +52,12 @@ impl LineReader {
         ensures cause { HasCause DiskError.Failed (D.faults disk.old) (D.faults disk.new) result }
         ensures lender { D.lender disk.new ≡ D.lender disk.old }
     {
-        let Some(end) = disk.len(&name)? else {
+        let Some(bytes) = ByteReader::open(alloc, disk, &name)? else {
             return Ok(None);
         };
         let reader = LineReader {
             name,
-            at: 0,
-            end,
-            piece: Vec::new(alloc),
-            from: 0,
+            bytes,
             line: Vec::new(alloc),
             limit,
         };
@@ -114,20 +105,8 @@ impl LineReader {
         ensures cause { HasCause DiskError.Failed (D.faults disk.old) (D.faults disk.new) result }
         ensures lender { D.lender disk.new ≡ D.lender disk.old }
     {
-        if self.from < self.piece.len() {
-            return Ok(false);
-        }
-        if self.at >= self.end {
-            return Ok(true);
-        }
-        let room = smaller(self.end - self.at, PIECE_BYTES);
-        let alloc = *self.line.allocator();
-        let piece = read_piece(alloc, disk, &self.name, self.at, room)?;
-        let ended = piece.is_empty();
-        self.at += piece.len() as u64;
-        self.piece = piece;
-        self.from = 0;
-        Ok(ended)
+        let some = self.bytes.fill(disk, &self.name)?;
+        Ok(!some)
     }
 
     /// Moves bytes of the piece behind the line's front: those up to a line feed, which is dropped, or all.
@@ -137,16 +116,17 @@ impl LineReader {
         ensures took { IfOk result (λ ended. TakesPiece ended self.old self.new) }
         ensures file { IsSameFile self.old self.new }
     {
-        let held = bytes_from(&self.piece, self.from);
+        let held = self.bytes.held();
         match line_feed_at(held) {
             Some(k) => {
                 self.line.extend_from_slice(&held[..k])?;
-                self.from += k + 1;
+                self.bytes.skip(k + 1);
                 Ok(true)
             }
             None => {
+                let count = held.len();
                 self.line.extend_from_slice(held)?;
-                self.from = self.piece.len();
+                self.bytes.skip(count);
                 Ok(false)
             }
         }
@@ -177,14 +157,6 @@ impl LineReader {
             Found::Line
         }
     }
-}
-
-/// The bytes from a place on.
-fn bytes_from(bytes: &[u8], from: usize) -> &[u8]
-    requires { from ≤ length bytes.now }
-    ensures { result.now ≡ drop from bytes.now }
-{
-    &bytes[from..]
 }
 
 /// The place of the first line feed.

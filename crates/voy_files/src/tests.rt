@@ -1,4 +1,4 @@
-use crate::{Found, LineReader, PIECE_BYTES, read_file};
+use crate::{ByteReader, Found, LineReader, PIECE_BYTES, read_file};
 use std::alloc::Global;
 use std::test::Fail;
 use voy_disk::{Disk, DiskError, FaultPlan, MemDisk, Name, Numbers, SureDisk};
@@ -166,5 +166,37 @@ fn a_file_is_read_whole(rt: HostRuntime) -> Result<(), Fail> {
     }
     let mut disk = SureDisk::new(alloc);
     assert!(rt; read_file(alloc, &mut disk, &name)?.is_none());
+    Ok(())
+}
+
+#[test]
+fn a_reader_takes_bytes_numbers_and_parts(rt: HostRuntime) -> Result<(), Fail> {
+    let alloc = rt.alloc();
+    let name = name_of(alloc, "changes.ndjson")?;
+    let mut disk = sure_disk(alloc, &[7, 0x01, 0x02, 0x03, 0x04, 5, 6, 8])?;
+    let mut reader = ByteReader::open(alloc, &mut disk, &name)?.ok_or("there is no such file")?;
+    assert_eq!(rt; reader.take_byte(&mut disk, &name)?, Some(7));
+    assert_eq!(rt; reader.take_number(&mut disk, &name)?, Some(0x0102_0304));
+    let part = reader
+        .take(&mut disk, &name, 2)?
+        .ok_or("there are two bytes more")?;
+    assert_eq!(rt; part.as_slice(), [5, 6].as_slice());
+    assert!(rt; reader.fill(&mut disk, &name)?);
+    assert_eq!(rt; reader.take_byte(&mut disk, &name)?, Some(8));
+    assert!(rt; !reader.fill(&mut disk, &name)?);
+    assert_eq!(rt; reader.take_byte(&mut disk, &name)?, None);
+    Ok(())
+}
+
+#[test]
+fn what_is_cut_short_is_not_taken(rt: HostRuntime) -> Result<(), Fail> {
+    let alloc = rt.alloc();
+    let name = name_of(alloc, "changes.ndjson")?;
+    let mut disk = sure_disk(alloc, &[1, 2, 3])?;
+    let mut reader = ByteReader::new(alloc, 3);
+    assert!(rt; reader.take(&mut disk, &name, 4)?.is_none());
+    let mut reader = ByteReader::new(alloc, 3);
+    assert_eq!(rt; reader.take_number(&mut disk, &name)?, None);
+    assert!(rt; ByteReader::open(alloc, &mut disk, &name_of(alloc, "absent")?)?.is_none());
     Ok(())
 }

@@ -2,7 +2,7 @@ ghost use Rattle.std.specs.Prelude.{◌≡◌, IfOk, MatchOption, None, Some, is
 ghost use Rattle.voy_disk.specs.Faults.{HasCause};
 ghost use Rattle.voy_disk.specs.Files.{Told, bytes_now};
 
-use crate::piece::{PIECE_BYTES, read_piece, smaller};
+use crate::byte_reader::{ByteReader, PIECE_BYTES};
 use std::alloc::Global;
 use voy_disk::{Disk, DiskError, Name};
 
@@ -19,17 +19,14 @@ pub fn read_file<D: Disk>(
     ensures cause { HasCause DiskError.Failed (D.faults disk.old) (D.faults disk.new) result }
     ensures lender { D.lender disk.new ≡ D.lender disk.old }
 {
-    let Some(length) = disk.len(name)? else {
+    let Some(mut reader) = ByteReader::open(alloc, disk, name)? else {
         return Ok(None);
     };
     let mut bytes = Vec::new(alloc);
-    while (bytes.len() as u64) < length {
-        let at = bytes.len() as u64;
-        let piece = read_piece(alloc, disk, name, at, smaller(length - at, PIECE_BYTES))?;
-        if piece.is_empty() {
+    'pieces: loop {
+        if !reader.fill(disk, name)? {
             return Ok(Some(bytes));
         }
-        bytes.extend_from_slice(&piece)?;
+        reader.take_held(PIECE_BYTES, &mut bytes)?;
     }
-    Ok(Some(bytes))
 }

@@ -1,6 +1,5 @@
 pub mod Adding
 pub mod Calls
 pub mod Gates
-pub mod Pieces
 pub mod Progress
 pub mod Settling

@@ -5,6 +5,5 @@ pub mod Grammar
 pub mod GrammarLaws
 pub mod Journal
 pub mod JournalLaws
-pub mod Reader
 pub mod Reading
 pub mod Storing

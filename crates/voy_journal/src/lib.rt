@@ -24,7 +24,6 @@ mod limits;
 mod opened;
 mod opening;
 mod payloads;
-mod reader;
 mod reading;
 mod state;
 mod storing;

@@ -1,9 +1,6 @@
 /// The most bytes of a payload. A longer one is refused, and a file that states one is damaged.
 pub const MAX_PAYLOAD_BYTES: u32 = 1_073_741_824;
 
-/// How many bytes are read from a disk at a time.
-pub(crate) const PIECE_BYTES: usize = 65536;
-
 /// The gate byte in front of a payload. Any other closes the journal.
 pub(crate) const OPEN_GATE: u8 = 1;
 

@@ -1,15 +1,15 @@
 ghost use Rattle.std.specs.Prelude.{◌≡◌, ◌≤◌, ◌<◌, ◌+◌, ◌^◌, ℕ, length, vec_len, IfErr, IfOk, IfSome, MatchOption};
 ghost use Rattle.voy_disk.specs.Faults.{HasCause};
+ghost use Rattle.voy_files.specs.Bytes.{OfBytes, bytes_left, unread};
 ghost use Rattle.voy_journal.specs.Grammar.{DamagedAt, FitAFile, IsBroken};
-ghost use Rattle.voy_journal.specs.Reader.{OfBytes, bytes_left, unread};
 ghost use Rattle.voy_journal.specs.Reading.{HoldsUpTo, IsEntry, IsShort, Meets, Takes};
 
 use crate::error::JournalError;
 use crate::limits::{HEAD_BYTES, MAX_PAYLOAD_BYTES, OPEN_GATE};
 use crate::payloads::Payloads;
-use crate::reader::Reader;
 use std::alloc::Global;
 use voy_disk::{Disk, DiskError, Name};
+use voy_files::ByteReader;
 
 /// What a file of a journal has.
 #[derive(Debug, Drop)]
@@ -49,7 +49,7 @@ pub(crate) fn read_payloads<D: Disk>(
     ensures cause { HasCause JournalError.Fault (D.faults disk.old) (D.faults disk.new) result }
     ensures lender { D.lender disk.new ≡ D.lender disk.old }
 {
-    let mut reader = Reader::new(alloc, end);
+    let mut reader = ByteReader::new(alloc, end);
     let mut payloads = Payloads::new(alloc);
     let mut gate = 0;
     'gates: loop {
@@ -65,7 +65,7 @@ pub(crate) fn read_payloads<D: Disk>(
 }
 
 // What stands at the gate in front of the reader.
-fn next_of<D: Disk>(reader: &mut Reader, disk: &mut D, name: &Name) -> Result<Next, DiskError>
+fn next_of<D: Disk>(reader: &mut ByteReader, disk: &mut D, name: &Name) -> Result<Next, DiskError>
     ensures meets { IfOk result (λ next. OfBytes (D.files disk.old) name.now (λ bytes.
         0 < length (unread reader.old bytes) → Meets next (unread reader.old bytes) (unread reader.new bytes))) }
     ensures fewer { IfOk result (λ next. Takes next (bytes_left reader.old) (bytes_left reader.new)) }
@@ -88,7 +88,7 @@ fn next_of<D: Disk>(reader: &mut Reader, disk: &mut D, name: &Name) -> Result<Ne
 // The payload behind an open gate; `None` where it, its length or the next gate is not whole, or the
 // length is above what a payload may have.
 fn entry_of<D: Disk>(
-    reader: &mut Reader,
+    reader: &mut ByteReader,
     disk: &mut D,
     name: &Name,
 ) -> Result<Option<Vec<u8>>, DiskError>
@@ -100,7 +100,7 @@ fn entry_of<D: Disk>(
     ensures cause { HasCause DiskError.Failed (D.faults disk.old) (D.faults disk.new) result }
     ensures lender { D.lender disk.new ≡ D.lender disk.old }
 {
-    let Some(size) = reader.take_length(disk, name)? else {
+    let Some(size) = reader.take_number(disk, name)? else {
         return Ok(None);
     };
     if size > MAX_PAYLOAD_BYTES {

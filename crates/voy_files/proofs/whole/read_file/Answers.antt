@@ -1,32 +1,57 @@
-use Rattle.std.proofs.Common.{arith, ◌∙◌, ap, sym, take, vec_len}
+use Rattle.std.proofs.Common.{◌<◌, ◌++◌, ◌∙◌, arith, ap, drop, length, length-append, sym, take}
 use Rattle.voy_disk.specs.Files.{bytes_now}
-use Rattle.voy_files.proofs.Pieces.{longer_front}
-use Rattle.voy_disk.specs.Files.{told_at}
+use Rattle.voy_files.specs.Bytes.{held}
+use Rattle.voy_files.proofs.Pieces.{moved_before}
 use Rattle.voy_files.proofs.Told.{told_from}
 use Rattle.voy_files.proofs.whole.read_file.Goals as goal
 
-pub loop-alloc-init : goal.loop-alloc-init
-loop-alloc-init g c = record {
-  so_far = told_from (g.D.Disk.files c.args.disk.now) _ (λ fs is.
-      c.new-bytes.ensures.items ∙ ap (λ n. take n (bytes_now (fs c.args.name.now))) (sym c.new-bytes.ensures.len));
-  same = c.in_ok-length.ensures.same;
-  later = omega (arith, c.in_ok-length.ensures.cause.later);
-  lender = c.in_ok-length.ensures.lender;
+pub returns-in_default-clause-whole : goal.returns-in_default-clause-whole
+returns-in_default-clause-whole g c = told_from (g.D.Disk.files c.args.disk.now) _ (λ fs is. (rw c.in_default.is at c.in_ok-reader.ensures.absent) fs is)
+
+pub pieces-init : goal.pieces-init
+pieces-init g c = record {
+  so_far = λ fs is. rw c.new-bytes.ensures.items (sym ((rw c.in-Some.is at c.in_ok-reader.ensures.absent) fs is));
+  same = c.in_ok-reader.ensures.same;
+  later = c.in_ok-reader.ensures.cause.later;
+  lender = c.in_ok-reader.ensures.lender;
 }
 
-pub loop-alloc-preserved : goal.loop-alloc-preserved
-loop-alloc-preserved g c =
-    let bytes = c.loop-alloc.bytes in
-    let piece = c.in_ok-piece.piece in
-    let after = c.extend_from_slice.new.self in
+pub pieces-smaller : goal.pieces-smaller
+pieces-smaller g c =
+    let read = c.pieces.bytes.items in
+    let longer = c.take_held.new.to.items in
+    let filled = c.fill.new.self in
+    let taken = c.take_held.new.self in
+    let clauses = c.in_ok-take_held.ensures in
+    let some : 0 < length (held filled) = c.in_ok-fill.ensures.held c.if-not-branch.false in
+    omega (
+      arith,
+      clauses.at,
+      clauses.end,
+      clauses.count,
+      c.in_ok-fill.ensures.fewer,
+      ap length clauses.moves,
+      length-append longer (held taken),
+      length-append read (held filled),
+      c.pieces.bytes.ok.0,
+      c.take_held.new.to.ok.0,
+      some,
+    )
+
+pub pieces-preserved : goal.pieces-preserved
+pieces-preserved g c =
+    let read = c.pieces.bytes.items in
+    let longer = c.take_held.new.to.items in
+    let filled = c.fill.new.self in
+    let taken = c.take_held.new.self in
+    let clauses = c.in_ok-take_held.ensures in
     record {
-      so_far = told_from (g.D.Disk.files c.args.disk.now) _ (λ fs is.
-          let so_far = told_at (g.D.Disk.files c.args.disk.now) _ c.loop-alloc.invariant.so_far fs is in
-          let read = told_at (g.D.Disk.files c.loop-alloc.disk) _ c.in_ok-piece.ensures.bytes fs (c.loop-alloc.invariant.same ∙ is) in
-          longer_front (bytes_now (fs c.args.name.now)) bytes.items piece.items c.deref.result.now after.items (vec_len bytes) (vec_len piece) (vec_len after)
-          so_far bytes.ok.0 (rw c.len-at.ensures at read) piece.ok.0
-          c.deref.ensures.value c.in_ok-extend_from_slice.ensures.items after.ok.0);
-      same = c.in_ok-piece.ensures.same ∙ c.loop-alloc.invariant.same;
-      later = omega (arith, c.in_ok-piece.ensures.cause.later);
-      lender = c.in_ok-piece.ensures.lender ∙ c.loop-alloc.invariant.lender;
+      so_far = λ fs is.
+          let all = bytes_now (fs c.args.name.now) in
+          c.pieces.invariant.so_far fs is ∙ ap (λ rest. read ++ rest) (sym (c.in_ok-fill.ensures.unread fs (c.pieces.invariant.same ∙ is)))
+          ∙ moved_before read longer (held filled) (held taken) (drop filled.at (take filled.end all)) (drop taken.at (take taken.end all))
+          clauses.moves (ap (λ at. drop at (take taken.end all)) clauses.at ∙ ap (λ end. drop filled.at (take end all)) clauses.end);
+      same = c.in_ok-fill.ensures.same ∙ c.pieces.invariant.same;
+      later = omega (arith, c.in_ok-fill.ensures.cause.later, c.pieces.invariant.later);
+      lender = c.in_ok-fill.ensures.lender ∙ c.pieces.invariant.lender;
     }

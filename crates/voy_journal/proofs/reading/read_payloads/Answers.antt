@@ -1,6 +1,6 @@
 use Rattle.std.proofs.Common.{arith, ◌∙◌, subst}
 use Rattle.voy_disk.specs.Files.{bytes_now}
-use Rattle.voy_journal.specs.Reader.{bytes_left, unread}
+use Rattle.voy_files.specs.Bytes.{bytes_left, unread}
 use Rattle.voy_journal.specs.Reading.{IsShort, Meets, Takes}
 use Rattle.voy_journal.specs.declared.reading.Next.{Next}
 use Rattle.voy_journal.proofs.Progress.{one_more, reads_on}

@@ -1,5 +1,5 @@
 use Rattle.std.proofs.Common.{◌≡◌, ◌<◌, ◌+◌, ◌≤◌, length}
-use Rattle.voy_journal.specs.Reader.{OfBytes, bytes_left, unread}
+use Rattle.voy_files.specs.Bytes.{OfBytes, bytes_left, unread}
 use Rattle.voy_journal.proofs.Progress.{AreRead, HasRead}
 use Rattle.voy_journal.proofs.reading.read_payloads.Given as goal
 

@@ -1,16 +1,22 @@
-ghost use Rattle.std.specs.Prelude.{◌≡◌, ◌-◌, ◌^◌, ◌+◌, ◌≤◌, ◌<◌, ◌++◌, ℕ, List, [], ◌∷◌, length, take, drop, min, vec_len, IsTrue, IsFalse, IfOk, OnOk, IfSome, MatchOption};
+ghost use Rattle.std.specs.Prelude.{◌≡◌, ◌-◌, ◌^◌, ◌+◌, ◌≤◌, ◌<◌, ◌++◌, ℕ, List, [], ◌∷◌, None, length, take, drop, min, vec_len, is_some, IsTrue, IsFalse, IfOk, OnOk, IfSome, MatchOption};
 ghost use Rattle.std.specs.Int.{w32, to_be_bytes};
 ghost use Rattle.voy_disk.specs.Faults.{HasCause};
-ghost use Rattle.voy_journal.specs.Reader.{OfBytes, bytes_left, held, unread};
+ghost use Rattle.voy_disk.specs.Files.{IfTold, bytes_now};
+ghost use Rattle.voy_files.specs.Bytes.{OfBytes, bytes_left, held, unread};
 
-use crate::limits::PIECE_BYTES;
 use std::alloc::{AllocError, Global};
 use voy_disk::{Disk, DiskError, Name};
 
+/// How many bytes are read from a disk at a time.
+pub const PIECE_BYTES: usize = 65536;
+
 /// Takes the bytes of a file from its beginning on, of which it holds a piece of at most
 /// [`PIECE_BYTES`] at a time.
+///
+/// Each call is given the disk and the name of the file. The reader reads up to the length that it was
+/// made with. After an error, and after a part or a number that was not whole, it is given up.
 #[derive(Debug, Drop)]
-pub(crate) struct Reader {
+pub struct ByteReader {
     /// The place in the file of the next piece.
     pub(crate) at: u64,
     /// Bytes from here on are not read.
@@ -20,13 +26,13 @@ pub(crate) struct Reader {
     pub(crate) from: usize,
 }
 
-impl Reader {
-    /// A reader of a file of `end` bytes.
-    pub(crate) fn new(alloc: Global, end: u64) -> Reader
+impl ByteReader {
+    /// A reader of the first `end` bytes of a file.
+    pub fn new(alloc: Global, end: u64) -> ByteReader
         ensures unread { (bytes : List ℕ) → unread result bytes ≡ take end bytes }
         ensures left { bytes_left result ≡ end }
     {
-        Reader {
+        ByteReader {
             at: 0,
             end,
             piece: Vec::new(alloc),
@@ -34,8 +40,28 @@ impl Reader {
         }
     }
 
+    /// A reader of all bytes that a file has now; `None` exactly where there is no such file.
+    pub fn open<D: Disk>(
+        alloc: Global,
+        disk: &mut D,
+        name: &Name,
+    ) -> Result<Option<ByteReader>, DiskError>
+        ensures absent { IfOk result (λ found. IfTold (D.files disk.old) (λ fs.
+            MatchOption found (fs name.now ≡ None) (λ reader. unread reader (bytes_now (fs name.now)) ≡ bytes_now (fs name.now)))) }
+        ensures found { IfOk result (λ found. IfTold (D.files disk.old) (λ fs. is_some found ≡ is_some (fs name.now))) }
+        ensures few { IfOk result (λ found. IfSome found (λ reader. bytes_left reader < 2 ^ 63)) }
+        ensures same { D.files disk.new ≡ D.files disk.old }
+        ensures cause { HasCause DiskError.Failed (D.faults disk.old) (D.faults disk.new) result }
+        ensures lender { D.lender disk.new ≡ D.lender disk.old }
+    {
+        let Some(end) = disk.len(name)? else {
+            return Ok(None);
+        };
+        Ok(Some(ByteReader::new(alloc, end)))
+    }
+
     /// Whether a byte is at hand. The next piece is read where the last one is used up.
-    pub(crate) fn fill<D: Disk>(&mut self, disk: &mut D, name: &Name) -> Result<bool, DiskError>
+    pub fn fill<D: Disk>(&mut self, disk: &mut D, name: &Name) -> Result<bool, DiskError>
         ensures held { IfOk result (λ some. IsTrue some → 0 < length (held self.new)) }
         ensures none { IfOk result (λ some. OfBytes (D.files disk.old) name.now (λ bytes. IsFalse some → unread self.old bytes ≡ [])) }
         ensures unread { IfOk result (λ some. OfBytes (D.files disk.old) name.now (λ bytes. unread self.new bytes ≡ unread self.old bytes)) }
@@ -52,8 +78,8 @@ impl Reader {
         if self.at >= self.end {
             return Ok(false);
         }
-        self.piece
-            .resize(smaller(self.end - self.at, PIECE_BYTES), 0)?;
+        let room = smaller(self.end - self.at, PIECE_BYTES);
+        self.piece.resize(room, 0)?;
         let count = disk.read_at(name, self.at, &mut self.piece)?;
         self.piece.truncate(count);
         self.at += count as u64;
@@ -61,11 +87,7 @@ impl Reader {
     }
 
     /// The next byte, or `None` where none is left.
-    pub(crate) fn take_byte<D: Disk>(
-        &mut self,
-        disk: &mut D,
-        name: &Name,
-    ) -> Result<Option<u8>, DiskError>
+    pub fn take_byte<D: Disk>(&mut self, disk: &mut D, name: &Name) -> Result<Option<u8>, DiskError>
         ensures taken { IfOk result (λ taken. OfBytes (D.files disk.old) name.now (λ bytes.
             MatchOption taken (unread self.old bytes ≡ []) (λ byte. unread self.old bytes ≡ byte ∷ unread self.new bytes))) }
         ensures fewer { IfOk result (λ taken. IfSome taken (λ _. bytes_left self.new + 1 ≤ bytes_left self.old)) }
@@ -81,14 +103,14 @@ impl Reader {
         Ok(Some(byte))
     }
 
-    /// The length of a payload, or `None` where fewer than its four bytes are left.
-    pub(crate) fn take_length<D: Disk>(
+    /// The number in the next four bytes, the highest first, or `None` where fewer are left.
+    pub fn take_number<D: Disk>(
         &mut self,
         disk: &mut D,
         name: &Name,
     ) -> Result<Option<u32>, DiskError>
         ensures taken { IfOk result (λ taken. OfBytes (D.files disk.old) name.now (λ bytes.
-            MatchOption taken (length (unread self.old bytes) < 4) (λ size. unread self.old bytes ≡ to_be_bytes w32 size ++ unread self.new bytes))) }
+            MatchOption taken (length (unread self.old bytes) < 4) (λ number. unread self.old bytes ≡ to_be_bytes w32 number ++ unread self.new bytes))) }
         ensures fewer { IfOk result (λ taken. IfSome taken (λ _. bytes_left self.new + 4 ≤ bytes_left self.old)) }
         ensures same { D.files disk.new ≡ D.files disk.old }
         ensures cause { HasCause DiskError.Failed (D.faults disk.old) (D.faults disk.new) result }
@@ -111,7 +133,7 @@ impl Reader {
 
     /// The next `size` bytes, or `None` where fewer are left. No memory is taken for bytes that the file
     /// has not.
-    pub(crate) fn take<D: Disk>(
+    pub fn take<D: Disk>(
         &mut self,
         disk: &mut D,
         name: &Name,
@@ -138,27 +160,45 @@ impl Reader {
         Ok(Some(part))
     }
 
-    // At most how many bytes are left; the last number of its type where they are more.
-    fn left(&self) -> u64
-        ensures { result ≡ min (bytes_left self.now) (2 ^ 64 - 1) }
+    /// The bytes at hand that were not taken yet.
+    pub(crate) fn held(&self) -> &[u8]
+        requires { 0 < length (held self.now) }
+        ensures { result.now ≡ held self.now }
     {
-        let held = self.piece.len().saturating_sub(self.from) as u64;
-        self.end.saturating_sub(self.at).saturating_add(held)
+        bytes_from(&self.piece, self.from)
     }
 
-    // Moves bytes of the piece behind those of `to`, as many as are held and wanted.
-    fn take_held(&mut self, wanted: usize, to: &mut Vec<u8>) -> Result<(), AllocError>
+    /// Takes that many of the bytes at hand.
+    pub(crate) fn skip(&mut self, count: usize)
+        requires { count ≤ length (held self.old) }
+        ensures held { held self.new ≡ drop count (held self.old) }
+        ensures at { self.new.at ≡ self.old.at }
+        ensures end { self.new.end ≡ self.old.end }
+    {
+        self.from += count;
+    }
+
+    /// Moves bytes at hand behind those of `to`, as many as there are and are wanted.
+    pub(crate) fn take_held(&mut self, wanted: usize, to: &mut Vec<u8>) -> Result<(), AllocError>
         requires { 0 < length (held self.old) }
         ensures moves { OnOk result (to.new.items ++ held self.new ≡ to.old.items ++ held self.old) }
         ensures count { OnOk result (vec_len to.new ≡ vec_len to.old + min wanted (length (held self.old))) }
         ensures at { self.new.at ≡ self.old.at }
         ensures end { self.new.end ≡ self.old.end }
     {
-        let held = bytes_from(&self.piece, self.from);
+        let held = self.held();
         let count = smaller(wanted as u64, held.len());
         to.extend_from_slice(&held[..count])?;
-        self.from += count;
+        self.skip(count);
         Ok(())
+    }
+
+    /// At most how many bytes are left; the last number of its type where they are more.
+    fn left(&self) -> u64
+        ensures { result ≡ min (bytes_left self.now) (2 ^ 64 - 1) }
+    {
+        let held = self.piece.len().saturating_sub(self.from) as u64;
+        self.end.saturating_sub(self.at).saturating_add(held)
     }
 }
 

@@ -1,6 +1,6 @@
 use Rattle.std.proofs.Common.{◌≡◌, ◌-◌, ◌+◌, ◌≤◌, ◌++◌, vec_len}
-use Rattle.voy_journal.specs.Reader.{OfBytes, bytes_left, unread}
-use Rattle.voy_journal.proofs.reader.Reader.take.Given as goal
+use Rattle.voy_files.specs.Bytes.{OfBytes, bytes_left, unread}
+use Rattle.voy_files.proofs.byte_reader.ByteReader.take.Given as goal
 
 abbrev pub invariant-loop-self : goal.invariant-loop-self
 invariant-loop-self g l = record {
