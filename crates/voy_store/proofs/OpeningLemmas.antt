@@ -1,11 +1,10 @@
 -- Payloads taken one after the other, and the first that is not.
-use Rattle.std.proofs.Common.{◌≡◌, IfSome, ◌+◌, ◌<◌, ◌≤◌, ◌^◌, ◌&&◌, ℕ, zero, suc, Bool, true, false, cond, List, [], ◌∷◌, ◌++◌, Option, Some, None, drop, get_or, is_none, length, length-append, map, min, take, refl, sym, ap, inl, inr, lit<, ◌∙◌, arith}
+use Rattle.std.proofs.Common.{◌≡◌, ◌+◌, ◌<◌, ◌≤◌, ◌^◌, ◌&&◌, ℕ, zero, suc, Bool, true, false, cond, List, [], ◌∷◌, ◌++◌, Option, Some, None, drop, get_or, is_none, length, length-append, map, take, refl, sym, ap, ◌∙◌, arith}
 use Rattle.std.proofs.lemmas.List.{drop_more, take_more, map-append}
 use Rattle.std.specs.Global.{Vec}
 use Rattle.std.specs.Option.{option_and_then}
 use Rattle.voy_disk.specs.Calls.{Change, told, untold}
-use Rattle.voy_disk.specs.File.{File}
-use Rattle.voy_disk.specs.Files.{AreShort, Files, IfTold, bytes_now}
+use Rattle.voy_disk.specs.Files.{Files, IfTold, bytes_now}
 use Rattle.voy_disk.specs.Images.{ImagesOf}
 use Rattle.voy_disk.specs.Steps.{Every}
 use Rattle.voy_journal.specs.Grammar.{Fit, HasPayloads, entries}
@@ -18,7 +17,7 @@ use Rattle.voy_store.specs.JournalLogLaws.{stands_as_known}
 use Rattle.voy_store.specs.JournalLogs.{history_on, history_told}
 use Rattle.voy_store.specs.Opening.{TellsStored}
 use Rattle.voy_store.specs.Stored.{first_bad, if_taken, store_name}
-use Rattle.voy_store.specs.Taking.{AreTaken, FitAFile}
+use Rattle.voy_store.specs.Taking.{AreTaken}
 use Rattle.voy_txn.specs.Commits.{is_next}
 use Rattle.voy_txn.specs.Contents.{Contents, contents_after, contents_of}
 use Rattle.voy_txn.specs.HistoryLaws.{contents_grow}
@@ -97,10 +96,10 @@ module _ (schema : List Table) (payloads : List (Vec ℕ)) (i : ℕ) (payload : 
   left_bytes : length (entries (bytes_of (drop i payloads))) ≡ (5 + length payload.items) + length (entries (bytes_of (drop (i + 1) payloads)))
   left_bytes = ap (λ left. length (entries left)) (left_at payloads i payload within is) ∙ entries_length payload.items (bytes_of (drop (i + 1) payloads))
 
-  -- the next gate, where all gates are in 64 bits
-  pub next_gate : (offset next total : ℕ) → next ≡ min (offset + (5 + length payload.items)) 18446744073709551615 → total < 2 ^ 63
-      → offset + length (entries (bytes_of (drop i payloads))) ≡ total → next ≡ offset + (5 + length payload.items)
-  next_gate offset next total moved short place = omega (arith, left_bytes)
+  -- the next gate stands in the file
+  pub gate_below : (offset total : ℕ) → total < 2 ^ 63 → offset + length (entries (bytes_of (drop i payloads))) ≡ total
+      → offset + (5 + length payload.items) < 2 ^ 63
+  gate_below offset total short place = omega (arith, left_bytes)
 
   pub place_more : (offset next total : ℕ) → next ≡ offset + (5 + length payload.items) → offset + length (entries (bytes_of (drop i payloads))) ≡ total
       → next + length (entries (bytes_of (drop (i + 1) payloads))) ≡ total
@@ -116,27 +115,15 @@ module _ (schema : List Table) (payloads : List (Vec ℕ)) (i : ℕ) (payload : 
 
 -- ---- the whole opening
 
-short_bytes : (found : Option File) → IfSome found (λ file. length file.now < 2 ^ 63) → length (bytes_now found) < 2 ^ 63
-short_bytes None short = lit< tt
-short_bytes (Some file) short = short
-
--- a file can have the payloads that it has
-pub fits_a_file : (payloads : List (List ℕ)) (bytes : List ℕ) → HasPayloads payloads bytes → length bytes < 2 ^ 63 → FitAFile payloads
-fits_a_file payloads bytes (inl holds) short = record {
-  fit = holds.fit;
-  short = omega (arith, ap length holds.split, length-append (entries payloads) (holds.gate ∷ holds.rest));
-}
-fits_a_file payloads bytes (inr (few, none)) short = rw none (record { fit = tt; short = lit< tt })
-
 -- what the journal has is stored, and told
 pub tells_stored : (schema : List Table) (name : List ℕ) (payloads : List (List ℕ)) (journal : Journal) (contents : Contents) (fs : Files) (new : Option Files)
-    → AreShort fs → HasPayloads payloads (bytes_now (fs name)) → Change (KeepsOtherFiles name) (Some fs) new
+    → HasPayloads payloads (bytes_now (fs name)) → Change (KeepsOtherFiles name) (Some fs) new
     → IfTold new (λ y. known_payloads journal (Some y) ≡ Some payloads) → AreTaken schema payloads contents
-    → (FitAFile payloads → first_bad schema (contents_of schema []) 0 payloads ≡ None)
+    → first_bad schema (contents_of schema []) 0 payloads ≡ None
     → TellsStored schema (bytes_now (fs name)) (history_on schema journal new)
-tells_stored schema name payloads journal contents fs new short has (told {new = y} others) known taken good = record {
+tells_stored schema name payloads journal contents fs new has (told {new = y} others) known taken good = record {
   history = taken.history;
-  stored = record { payloads = payloads; has = has; read = taken.read; good = good (fits_a_file payloads (bytes_now (fs name)) has (short_bytes (fs name) (short name))) };
+  stored = record { payloads = payloads; has = has; read = taken.read; good = good };
   is = ap (history_told schema) (known y refl) ∙ taken.read;
 }
 

@@ -1,17 +1,11 @@
 -- What the reader of a store's payloads says on its way.
-use Rattle.std.specs.Prelude.{◌≡◌, ◌<◌, ◌^◌, ℕ, List, Option, Some, None, Result, Ok, Err, length}
-use Rattle.voy_journal.specs.Grammar.{Fit, entries}
+use Rattle.std.specs.Prelude.{◌≡◌, ℕ, List, Option, Some, None, Result, Ok, Err}
 use Rattle.voy_schema.specs.declared.table.Table.{Table}
 use Rattle.voy_store.specs.Stored.{history_in}
 use Rattle.voy_store.specs.declared.open_error.OpenError.{OpenError}
 use Rattle.voy_store.specs.declared.open_error.OpenError.TheVariants.{Fault, Damaged, NoMemory}
 use Rattle.voy_txn.specs.Contents.{Contents, contents_of}
 use Rattle.voy_txn.specs.History.{History}
-
--- payloads that a file can have: none is too long, and all of it has fewer than 2 ^ 63 bytes
-pub record FitAFile (payloads : List (List ℕ)) : Type 0 where
-  pub fit : Fit payloads
-  pub short : length (entries payloads) < 2 ^ 63
 
 -- each payload is a transaction, and a store knows these contents after all of them
 pub record AreTaken (schema : List Table) (payloads : List (List ℕ)) (contents : Contents) : Type 0 where

@@ -5,7 +5,7 @@ ghost use Rattle.voy_disk.specs.Faults.{HasCause};
 ghost use Rattle.voy_disk.specs.Files.{IfTold, bytes_now};
 ghost use Rattle.voy_disk.specs.Images.{ImagesOf};
 ghost use Rattle.voy_disk.specs.Steps.{Every, Follows, StaysTold};
-ghost use Rattle.voy_journal.specs.Grammar.{DamagedAt, HasPayloads};
+ghost use Rattle.voy_journal.specs.Grammar.{DamagedAt, FitAFile, HasPayloads};
 ghost use Rattle.voy_journal.specs.Journal.{KeepsOtherFiles, KeepsPayloads, StandsOn, is_live, journal_name, known_payloads, payloads_in};
 ghost use Rattle.voy_store.specs.JournalLogs.{history_on, history_told};
 ghost use Rattle.voy_store.specs.Opening.{TellsStored, cause_of, given_back};
@@ -89,6 +89,7 @@ fn open_journal<D: Disk>(alloc: Global, disk: &mut D) -> Result<Opened, OpenErro
     ensures stands { IfOk result (λ opened. StandsOn opened.journal (D.files disk.new)) }
     ensures live { IfOk result (λ opened. IsTrue (is_live opened.journal)) }
     ensures name { IfOk result (λ opened. journal_name opened.journal ≡ store_name) }
+    ensures fits { IfOk result (λ opened. FitAFile opened.payloads) }
     ensures images { Follows (KeepsPayloads store_name) (ImagesOf (D.files disk.old)) (ImagesOf (D.files disk.new)) }
     ensures others { Change (KeepsOtherFiles store_name) (D.files disk.old) (D.files disk.new) }
     ensures told { StaysTold (ImagesOf (D.files disk.old)) (ImagesOf (D.files disk.new)) }

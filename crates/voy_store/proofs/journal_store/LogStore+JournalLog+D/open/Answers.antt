@@ -1,4 +1,3 @@
-use Rattle.voy_disk.specs.Files.{AreShort, told_at}
 use Rattle.voy_store.specs.Stored.{store_name}
 use Rattle.voy_store.proofs.OpeningLemmas.{every_tells, tells_stored}
 use Rattle.voy_store.proofs.journal_store.LogStore+JournalLog+D.open.Goals as goal
@@ -6,7 +5,6 @@ use Rattle.voy_store.proofs.journal_store.LogStore+JournalLog+D.open.Goals as go
 pub returns-in-Ok-read_contents-clause-stored : goal.returns-in-Ok-read_contents-clause-stored
 returns-in-Ok-read_contents-clause-stored g c = λ fs is.
     tells_stored c.args.schema.tables store_name c.in-Ok.opened.payloads c.in-Ok.opened.journal _ fs (g.D.Disk.files c.open_journal.new.disk)
-    (told_at _ AreShort (g.met.D.Disk.has_short_files c.args.disk) fs is)
     (c.in-Ok.ensures.payloads fs is)
     (rw is at c.in-Ok.ensures.others)
     c.in-Ok.ensures.known
