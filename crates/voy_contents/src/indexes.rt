@@ -6,10 +6,10 @@ ghost use Rattle.voy_tables.specs.Keys.{same_tuple};
 use crate::slots::Slots;
 use crate::tuples::Tuples;
 use std::alloc::AllocError;
-use voy_schema::{Copies, Items, Row, Same};
+use voy_schema::{Items, Same, Tuple, Value};
 
 /// The tuples of one unique key, with whether a row has them.
-pub(crate) type Index = Slots<Row, bool>;
+pub(crate) type Index = Slots<Tuple<Value>, bool>;
 
 /// In each index, takes the tuple of one row off and puts that of another one on. It takes no memory.
 pub(crate) fn move_tuples(indexes: &mut Items<Index>, from: &Tuples, to: &Tuples)
@@ -29,7 +29,7 @@ pub(crate) fn move_tuples(indexes: &mut Items<Index>, from: &Tuples, to: &Tuples
     }
 }
 
-fn move_tuple(index: &mut Index, from: &Option<Row>, to: &Option<Row>)
+fn move_tuple(index: &mut Index, from: &Option<Tuple<Value>>, to: &Option<Tuple<Value>>)
     requires from { HasPlace from.now index.old }
     requires to { HasPlace to.now index.old }
     ensures { index.new ≡ with_listed to.now true (with_listed from.now false index.old) }
@@ -38,7 +38,7 @@ fn move_tuple(index: &mut Index, from: &Option<Row>, to: &Option<Row>)
     set_listed(index, to, true);
 }
 
-fn set_listed(index: &mut Index, tuple: &Option<Row>, listed: bool)
+fn set_listed(index: &mut Index, tuple: &Option<Tuple<Value>>, listed: bool)
     requires { HasPlace tuple.now index.old }
     ensures { index.new ≡ with_listed tuple.now listed index.old }
 {
@@ -62,19 +62,23 @@ pub(crate) fn make_tuple_places(
     Ok(())
 }
 
-fn make_tuple_place(index: &mut Index, tuple: &Option<Row>) -> Result<(), AllocError>
+fn make_tuple_place(index: &mut Index, tuple: &Option<Tuple<Value>>) -> Result<(), AllocError>
     ensures keeps { KeepsIndex index.old index.new }
     ensures place { OnOk result (HasPlace tuple.now index.new) }
 {
     match tuple {
-        Some(values) => index.make(values.copy()?, false),
+        Some(values) => index.make(values, false),
         None => Ok(()),
     }
 }
 
 /// Whether a row other than the one that is changed has the tuple that it is to have: the index lists it,
 /// and it is not the tuple that the row has now.
-pub(crate) fn is_taken_by(index: &Index, from: &Option<Row>, to: &Option<Row>) -> bool
+pub(crate) fn is_taken_by(
+    index: &Index,
+    from: &Option<Tuple<Value>>,
+    to: &Option<Tuple<Value>>,
+) -> bool
     ensures { result ≡ is_taken_by from.now to.now index.now }
 {
     match to {
@@ -83,7 +87,7 @@ pub(crate) fn is_taken_by(index: &Index, from: &Option<Row>, to: &Option<Row>) -
     }
 }
 
-fn is_listed(index: &Index, values: &Row) -> bool
+fn is_listed(index: &Index, values: &Tuple<Value>) -> bool
     ensures { result ≡ is_listed values.now index.now }
 {
     match index.get(values) {
@@ -92,7 +96,7 @@ fn is_listed(index: &Index, values: &Row) -> bool
     }
 }
 
-fn is_same(tuple: &Option<Row>, values: &Row) -> bool
+fn is_same(tuple: &Option<Tuple<Value>>, values: &Tuple<Value>) -> bool
     ensures { result ≡ same_tuple (Some values.now) tuple.now }
 {
     match tuple {
@@ -113,7 +117,7 @@ pub(crate) fn sweep_tuples(indexes: &mut Items<Index>, tuples: &Tuples)
     }
 }
 
-fn sweep_tuple(index: &mut Index, tuple: &Option<Row>)
+fn sweep_tuple(index: &mut Index, tuple: &Option<Tuple<Value>>)
     ensures { (values : List Value) → is_listed values index.new ≡ is_listed values index.old }
 {
     if let Some(values) = tuple {

@@ -111,7 +111,7 @@ impl Marks {
             Txn::Batch { table, number, .. } => {
                 self.tables.item_mut(*table as usize).make_batch(*number)
             }
-            Txn::Events { channel, .. } => self.vsns.make(*channel, 0),
+            Txn::Events { channel, .. } => self.vsns.make(channel, 0),
         }
     }
 

@@ -99,7 +99,6 @@ impl MemTable {
         ensures keeps { KeepsRows self.old.rows self.old.indexes self.new.rows self.new.indexes }
         ensures place { OnOk result (IsSome (lookup (is_at (key_cmp key.now)) self.new.rows)) }
     {
-        let key = key.copy()?;
         self.rows.make(key, None)
     }
 

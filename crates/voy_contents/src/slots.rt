@@ -11,6 +11,7 @@ use std::collections::BTreeMap;
 use std::collections::btree_map::Values;
 use std::marker::Model;
 use std::mem::replace;
+use voy_schema::Copies;
 
 /// Values by key, in places that are made beforehand: to set the value of a place that is there takes no memory.
 ///
@@ -50,22 +51,6 @@ impl<K: Ord + Drop, V: Drop> Slots<K, V> {
         self.map.get(key)
     }
 
-    /// Makes a place for `key` with this value, where there is none. After an error nothing changed.
-    pub(crate) fn make(&mut self, key: K, value: V) -> Result<(), AllocError>
-        ensures ok { OnOk result (self.new ≡ with_slot K.cmp self.old key value) }
-        ensures err { OnErr result (self.new ≡ self.old) }
-        ensures ordered { IsStrictlySortedBy K.cmp (keys_of self.new) }
-    {
-        let _count = self.map.len();
-        if self.map.contains_key(&key) {
-            return Ok(());
-        }
-        match self.map.insert(key, value) {
-            Ok(_none) => Ok(()),
-            Err(_refused) => Err(AllocError),
-        }
-    }
-
     /// Sets the value at `key`, and gives the one that was there.
     pub(crate) fn set(&mut self, key: &K, value: V) -> V
         requires { IsSome (lookup (is_at (K.cmp key.now)) self.old) }
@@ -93,5 +78,23 @@ impl<K: Ord + Drop, V: Drop> Slots<K, V> {
     {
         let _count = self.map.len();
         let _taken = self.map.remove(key);
+    }
+}
+
+impl<K: Ord + Copies + Drop, V: Drop> Slots<K, V> {
+    /// Makes a place for a copy of `key` with this value, where there is none. After an error nothing changed.
+    pub(crate) fn make(&mut self, key: &K, value: V) -> Result<(), AllocError>
+        ensures ok { OnOk result (self.new ≡ with_slot K.cmp self.old key.now value) }
+        ensures err { OnErr result (self.new ≡ self.old) }
+        ensures ordered { IsStrictlySortedBy K.cmp (keys_of self.new) }
+    {
+        let _count = self.map.len();
+        if self.map.contains_key(key) {
+            return Ok(());
+        }
+        match self.map.insert(key.copy()?, value) {
+            Ok(_none) => Ok(()),
+            Err(_refused) => Err(AllocError),
+        }
     }
 }

@@ -51,7 +51,7 @@ impl TableMarks {
         ensures batch_rows { self.new.batch_rows ≡ self.old.batch_rows }
         ensures changes { self.new.changes ≡ self.old.changes }
     {
-        self.batches.make(number, false)
+        self.batches.make(&number, false)
     }
 
     /// Notes the batch of this number, which has so many rows.

@@ -6,7 +6,7 @@ use crate::done::Done;
 use std::alloc::Global;
 use std::process::Abort;
 use std::test::Fail;
-use voy_schema::{Bytes, Key, Schema, Text};
+use voy_schema::{Bytes, Items, Key, Schema, Text};
 use voy_txn::{Counts, Txn, read_txn};
 
 /// `users` with the bigint key `id` and the text `email`, which is unique.
@@ -56,6 +56,27 @@ fn what_was_done_is_undone(rt: HostRuntime) -> Result<(), Fail> {
     expect(&rt, &contents, 2, 0)?;
     assert!(rt; has_row(alloc, &contents, "1")?);
     Ok(())
+}
+
+#[test]
+fn places_that_hold_nothing_are_taken_away(rt: HostRuntime) -> Result<(), Fail> {
+    let alloc = rt.alloc();
+    let mut contents = no_users(alloc)?;
+    take(&rt, alloc, &mut contents, BATCH)?;
+    assert_eq!(rt; places(&contents), Some((2, 2)));
+    let delete = delete(alloc)?;
+    take_back(&rt, alloc, &mut contents, delete.as_slice())?;
+    assert_eq!(rt; places(&contents), Some((2, 2)));
+    take(&rt, alloc, &mut contents, delete.as_slice())?;
+    assert_eq!(rt; places(&contents), Some((1, 1)));
+    Ok(())
+}
+
+/// How many places there are for keys of `users`, and for tuples of its unique key.
+fn places(contents: &MemContents) -> Option<(usize, usize)> {
+    let users = contents.tables.get(0)?;
+    let emails = users.indexes.get(0)?;
+    Some((users.rows.values().count(), emails.values().count()))
 }
 
 fn no_users(alloc: Global) -> Result<MemContents, Fail> {
@@ -136,7 +157,7 @@ fn expect(rt: &impl Abort, contents: &MemContents, rows: u64, changes: u64) -> R
 }
 
 fn has_row(alloc: Global, contents: &MemContents, id: &str) -> Result<bool, Fail> {
-    let mut key = Key::new(alloc);
-    key.push(Text::from_str(alloc, id)?)?;
-    Ok(contents.row(0, &key).is_some())
+    let mut texts = Items::new(alloc);
+    texts.push(Text::from_str(alloc, id)?)?;
+    Ok(contents.row(0, &Key::new(texts)).is_some())
 }

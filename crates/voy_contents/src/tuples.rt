@@ -4,10 +4,10 @@ ghost use Rattle.voy_schema.specs.Rows.{counting_tuple, counts, is_null, value_a
 ghost use Rattle.voy_contents.specs.MemTables.{tuples_of};
 
 use std::alloc::{AllocError, Global};
-use voy_schema::{Copies, Items, Row, Table, UniqueKey, Value};
+use voy_schema::{Copies, Items, Row, Table, Tuple, UniqueKey, Value};
 
 /// For each unique key of a table, the tuple of a row that counts.
-pub(crate) type Tuples = Items<Option<Row>>;
+pub(crate) type Tuples = Items<Option<Tuple<Value>>>;
 
 /// The tuples of `row` that count, for each unique key of `table`; none where there is no row.
 pub(crate) fn tuples_of(
@@ -17,7 +17,7 @@ pub(crate) fn tuples_of(
 ) -> Result<Tuples, AllocError>
     ensures { IfOk result (λ tuples. tuples ≡ tuples_of table.now (option_copied row.entry)) }
 {
-    let mut tuples = Items::new(alloc);
+    let mut tuples = Items::with_capacity(alloc, table.unique_keys.len())?;
     for unique in table.unique_keys.as_slice() {
         let tuple = tuple_of(alloc, unique, row)?;
         tuples.push(tuple)?;
@@ -25,7 +25,11 @@ pub(crate) fn tuples_of(
     Ok(tuples)
 }
 
-fn tuple_of(alloc: Global, unique: &UniqueKey, row: Option<&Row>) -> Result<Option<Row>, AllocError>
+fn tuple_of(
+    alloc: Global,
+    unique: &UniqueKey,
+    row: Option<&Row>,
+) -> Result<Option<Tuple<Value>>, AllocError>
     ensures { IfOk result (λ tuple. tuple ≡ counting_tuple unique.now (option_copied row.entry)) }
 {
     match row {
@@ -62,15 +66,15 @@ fn is_null(row: &Row, place: u32) -> bool
 }
 
 /// The values of `row` at these places, in their order.
-fn values_at(alloc: Global, row: &Row, places: &[u32]) -> Result<Row, AllocError>
+fn values_at(alloc: Global, row: &Row, places: &[u32]) -> Result<Tuple<Value>, AllocError>
     ensures { IfOk result (λ values. values ≡ values_at row.now places.now) }
 {
-    let mut values = Items::new(alloc);
+    let mut values = Items::with_capacity(alloc, places.len())?;
     for place in places {
         let value = value_at(row, *place)?;
         values.push(value)?;
     }
-    Ok(values)
+    Ok(Tuple::new(values))
 }
 
 fn value_at(row: &Row, place: u32) -> Result<Value, AllocError>

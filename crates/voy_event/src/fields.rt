@@ -75,7 +75,7 @@ pub(crate) fn row_at(
 fn row_of(alloc: Global, columns: &[Column], fields: &Json) -> Result<Option<Row>, AllocError>
     ensures { IfOk result (λ found. found ≡ row_of columns.now (view fields.now)) }
 {
-    let mut row = Items::new(alloc);
+    let mut row = Items::with_capacity(alloc, columns.len())?;
     for column in columns {
         let Some(field) = fields.get(column.name.as_str()) else {
             return Ok(None);

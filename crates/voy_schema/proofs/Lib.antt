@@ -1,4 +1,5 @@
 pub mod BigintLemmas
+pub mod AbbreviationLemmas
 pub mod RowLemmas
 pub mod ReadingLemmas
 pub mod LawfulReading

@@ -6,3 +6,5 @@ pub mod LawfulLaws
 pub mod Stated
 pub mod Reading
 pub mod TextLaws
+pub mod Abbreviations
+pub mod AbbreviationLaws

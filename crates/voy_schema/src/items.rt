@@ -34,6 +34,14 @@ impl<T> Items<T> {
         }
     }
 
+    /// An empty list with room for so many items.
+    pub fn with_capacity(alloc: Global, capacity: usize) -> Result<Items<T>, AllocError>
+        ensures { IfOk result (λ made. made ≡ []) }
+    {
+        let items = Vec::with_capacity(alloc, capacity)?;
+        Ok(Items { items })
+    }
+
     /// The items of `items`, with no memory taken.
     pub fn from_vec(items: Vec<T>) -> Items<T>
         ensures { result ≡ items.items }
@@ -148,7 +156,7 @@ impl<T: Copy> Items<T> {
 
 impl<T: Copies + Drop> Copies for Items<T> {
     fn copy(&self) -> Result<Self, AllocError> {
-        let mut copied = Vec::new(*self.items.allocator());
+        let mut copied = Vec::with_capacity(*self.items.allocator(), self.items.len())?;
         for item in self.items.as_slice() {
             copied.push(item.copy()?)?;
         }

@@ -7,10 +7,12 @@
 //! A value is a text or NULL. [`check_value`] says which texts a column of each [`Kind`] takes, in the
 //! form in which PostgreSQL prints that type, and [`is_lawful_row`] whether a row can stand in a table.
 //!
-//! Contracts see a [`Text`] as its bytes and an [`Items`] as the list of its items, so that two values
-//! are equal exactly where they hold the same.
+//! Contracts see a [`Text`] as its bytes, and an [`Items`] or a [`Tuple`] as the list of its items, so that
+//! two values are equal exactly where they hold the same. Tuples are what maps find rows by, as a [`Key`]: most
+//! comparisons of two are decided by their abbreviated keys ([`Abbreviate`]).
 #![tactic(auto)]
 
+mod abbreviating;
 mod building;
 mod copying;
 mod distinct;
@@ -29,9 +31,11 @@ mod schema;
 mod stated;
 mod table;
 mod text;
+mod tuple;
 mod value;
 mod why;
 
+pub use abbreviating::Abbreviate;
 pub use copying::{Copies, Same};
 pub use items::Items;
 pub use kinds::check_value;
@@ -40,6 +44,7 @@ pub use rows::{has_whole_key, is_lawful_row, is_lawful_value};
 pub use schema::Schema;
 pub use table::{Column, Columns, Kind, Places, Table, Tables, UniqueKey, UniqueKeys};
 pub use text::Text;
+pub use tuple::Tuple;
 pub use value::{Bytes, Key, Row, Rows, Value};
 pub use why::{SchemaError, SchemaWhy};
 

@@ -4,8 +4,10 @@ ghost use Rattle.std.specs.Cmp.Lexicographic.{lists_agrees, lists_equiv, lists_p
 ghost use Rattle.std.specs.Ordering.{nat_cmp};
 ghost use Rattle.std.specs.Prelude.{nat_eq};
 
+use crate::abbreviating::Abbreviate;
 use crate::items::Items;
 use crate::text::Text;
+use crate::tuple::Tuple;
 use std::cmp::Ordering;
 
 // Texts are compared byte by byte, and lists item by item. So keys are compared as maps keep them.
@@ -82,6 +84,50 @@ impl<T: Ord> Ord for Items<T> {
     ghost matches_eq = { lists_ties T.cmp T.matches_eq };
 
     fn cmp(&self, other: &Self) -> Ordering {
+        order(self.as_slice(), other.as_slice())
+    }
+}
+
+impl<T: Abbreviate> PartialEq for Tuple<T> {
+    ghost eq = { pointwise T.eq };
+
+    ghost laws = { lists_per T.PartialEq.laws };
+
+    fn eq(&self, other: &Self) -> bool {
+        are_equal(self.as_slice(), other.as_slice())
+    }
+}
+
+impl<T: Abbreviate> Eq for Tuple<T> {
+    ghost laws = { lists_equiv T.Eq.laws };
+}
+
+impl<T: Abbreviate> PartialOrd for Tuple<T> {
+    ghost partial_cmp = { slice_partial_cmp T.partial_cmp };
+
+    ghost laws = { lists_po T.PartialOrd.laws };
+
+    fn partial_cmp(&self, other: &Self) -> Option<Ordering> {
+        partial_order(self.as_slice(), other.as_slice())
+    }
+}
+
+impl<T: Abbreviate> Ord for Tuple<T> {
+    ghost cmp = { slice_cmp T.cmp };
+
+    ghost total = { lists_total T.total };
+
+    ghost matches_partial_cmp = { lists_agrees T.matches_partial_cmp };
+
+    ghost matches_eq = { lists_ties T.cmp T.matches_eq };
+
+    fn cmp(&self, other: &Self) -> Ordering {
+        if self.abbreviation < other.abbreviation {
+            return Ordering::Less;
+        }
+        if self.abbreviation > other.abbreviation {
+            return Ordering::Greater;
+        }
         order(self.as_slice(), other.as_slice())
     }
 }

@@ -5,6 +5,7 @@ use crate::rows::{is_lawful_row, is_lawful_value};
 use crate::schema::Schema;
 use crate::table::{Kind, Table};
 use crate::text::Text;
+use crate::tuple::Tuple;
 use crate::value::{Row, Value};
 use crate::why::{SchemaError, SchemaWhy};
 use std::alloc::{AllocError, Global};
@@ -520,6 +521,61 @@ fn ordering(alloc: Global, a: &[Option<&str>], b: &[Option<&str>]) -> Result<Ord
     let a = row_of(alloc, a)?;
     let b = row_of(alloc, b)?;
     Ok(a.cmp(&b))
+}
+
+#[test]
+fn tuples_are_ordered_as_their_values_are(rt: HostRuntime) -> Result<(), Fail> {
+    // each tuple stands before the next one; some begin with the same eight bytes
+    let texts = [
+        "",
+        "a",
+        "a\0",
+        "abcdefgh",
+        "abcdefgh1",
+        "abcdefgh2",
+        "b",
+        "é",
+    ];
+    for (at, before) in texts.iter().enumerate() {
+        for text in &texts[at + 1..] {
+            let order = tuple_ordering(rt.alloc(), &[Some(*before)], &[Some(*text)])?;
+            assert_eq!(rt; order, Ordering::Less, "at {before:?}, {text:?}");
+            let order = tuple_ordering(rt.alloc(), &[Some(*text)], &[Some(*before)])?;
+            assert_eq!(rt; order, Ordering::Greater, "at {text:?}, {before:?}");
+        }
+    }
+    let order = tuple_ordering(rt.alloc(), &[Some("a"), None], &[Some("a"), Some("")])?;
+    assert_eq!(rt; order, Ordering::Less);
+    let order = tuple_ordering(rt.alloc(), &[Some("a"), Some("b")], &[Some("a"), Some("b")])?;
+    assert_eq!(rt; order, Ordering::Equal);
+    Ok(())
+}
+
+fn tuple_ordering(
+    alloc: Global,
+    a: &[Option<&str>],
+    b: &[Option<&str>],
+) -> Result<Ordering, AllocError> {
+    let a = Tuple::new(row_of(alloc, a)?);
+    let b = Tuple::new(row_of(alloc, b)?);
+    Ok(a.cmp(&b))
+}
+
+#[test]
+fn a_text_stays_as_it_is_whether_it_lies_inline_or_not(rt: HostRuntime) -> Result<(), Fail> {
+    let texts = [
+        "",
+        "é",
+        "a text of just 24 bytes.",
+        "a text that has 25 bytes.",
+        "a text that is longer than most keys are",
+    ];
+    for text in texts {
+        let kept = Text::from_str(rt.alloc(), text)?;
+        assert_eq!(rt; kept.as_str(), text);
+        assert_eq!(rt; kept.copy()?.as_str(), text);
+    }
+    Ok(())
 }
 
 #[test]

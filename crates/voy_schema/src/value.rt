@@ -1,6 +1,7 @@
 use crate::copying::{Copies, Same};
 use crate::items::Items;
 use crate::text::Text;
+use crate::tuple::Tuple;
 use std::alloc::AllocError;
 
 /// What a row has in a column: NULL, or a text in the form that the column's kind asks for. NULL comes
@@ -17,7 +18,7 @@ pub type Row = Items<Value>;
 pub type Rows = Items<Row>;
 
 /// The texts of a row's key columns, in the order of the key.
-pub type Key = Items<Text>;
+pub type Key = Tuple<Text>;
 
 pub type Bytes = Items<u8>;
 

@@ -12,12 +12,12 @@ use voy_schema::{Items, Key, Row, Table, Text, Value};
 pub fn key_of(alloc: Global, table: &Table, row: &Row) -> Result<Key, AllocError>
     ensures { IfOk result (λ key. key ≡ key_of table.now row.now) }
 {
-    let mut key = Items::new(alloc);
+    let mut texts = Items::with_capacity(alloc, table.primary_key.len())?;
     for place in table.primary_key.as_slice() {
         let text = Text::from_str(alloc, key_text(row, *place))?;
-        key.push(text)?;
+        texts.push(text)?;
     }
-    Ok(key)
+    Ok(Key::new(texts))
 }
 
 /// How the keys of two rows of `table` compare: text by text, and byte by byte.

@@ -248,9 +248,9 @@ fn apply(plain: &mut Plain, change: Change) -> Result<u64, Fail> {
 }
 
 fn key(alloc: Global, id: &str) -> Result<Key, AllocError> {
-    let mut key = Items::new(alloc);
-    key.push(Text::from_str(alloc, id)?)?;
-    Ok(key)
+    let mut texts = Items::new(alloc);
+    texts.push(Text::from_str(alloc, id)?)?;
+    Ok(Key::new(texts))
 }
 
 fn text_of(alloc: Global, row: Option<&Row>) -> Result<String, AllocError> {

@@ -3,10 +3,10 @@ use Rattle.voy_contents.proofs.PlaceLemmas.{made_keeps, made_there}
 use Rattle.voy_contents.specs.MemTables.{HasPlace}
 use Rattle.voy_contents.proofs.indexes.make_tuple_place.Goals as goal
 
-pub returns-in_ok-copy-in-Some-clause-keeps : goal.returns-in_ok-copy-in-Some-clause-keeps
-returns-in_ok-copy-in-Some-clause-keeps c = made_keeps c.make.result _ c.args.index.now c.make.new.self c.make.ensures.ok c.make.ensures.err
+pub returns-in-Some-clause-keeps : goal.returns-in-Some-clause-keeps
+returns-in-Some-clause-keeps c = made_keeps c.make.result _ c.args.index.now c.make.new.self c.make.ensures.ok c.make.ensures.err
 
-pub returns-in_ok-copy-in-Some-clause-place : goal.returns-in_ok-copy-in-Some-clause-place
-returns-in_ok-copy-in-Some-clause-place c =
-    subst (λ tuple. OnOk c.make.result (HasPlace tuple c.make.new.self)) (ap Some c.in_ok-copy-in-Some.ensures ∙ sym c.in-Some.is)
+pub returns-in-Some-clause-place : goal.returns-in-Some-clause-place
+returns-in-Some-clause-place c =
+    subst (λ tuple. OnOk c.make.result (HasPlace tuple c.make.new.self)) (sym c.in-Some.is)
     (made_there c.make.result _ c.args.index.now c.make.new.self c.make.ensures.ok)
