@@ -1,7 +1,8 @@
 #!/usr/bin/env bash
 # Times `show target` over journals of 10,000, 100,000 and 1,000,000 changes (or over those given), and a plain
-# python3 script that does the same work over the same bytes, in processor time. The sizes take turns, five times, and
-# the best of each counts, so that a machine that is slow for a while is slow for all of them.
+# python3 script that does the same work over the same bytes, in processor time. In a turn a smaller journal is shown
+# so often that as many changes are read as of the largest, so that a machine that is slow for a while is slow for
+# all of them. The figures are those of three turns together, and behind them stand those of single turns.
 #
 #   bench/show_target.sh PROGRAM [CHANGES..]
 set -eu
@@ -24,27 +25,30 @@ done
 python3 - "$program" "$here/show_by_script.py" "$folder" "${sizes[@]}" <<'P'
 import resource, subprocess, sys
 
-program, script, folder, *sizes = sys.argv[1:]
-best = {}
+program, script, folder = sys.argv[1:4]
+sizes = [int(size) for size in sys.argv[4:]]
+spent = {}
 
 
 def time(kind, size, command):
     before = resource.getrusage(resource.RUSAGE_CHILDREN)
     with open("/dev/null", "wb") as nowhere:
-        subprocess.run(command, stdout=nowhere, check=True)
+        for _ in range(max(sizes) // size):
+            subprocess.run(command, stdout=nowhere, check=True)
     after = resource.getrusage(resource.RUSAGE_CHILDREN)
-    spent = after.ru_utime + after.ru_stime - before.ru_utime - before.ru_stime
-    best[kind, size] = min(spent, best.get((kind, size), spent))
+    turns = spent.setdefault((kind, size), [])
+    turns.append(after.ru_utime + after.ru_stime - before.ru_utime - before.ru_stime)
 
 
-for turn in range(5):
+for turn in range(3):
     for size in sizes:
         place = f"{folder}/{size}"
         time("ours", size, [program, "--export-dir", place, "show", "target"])
         time("theirs", size, ["python3", script, place])
-first = best["ours", sizes[0]] / int(sizes[0])
 for size in sizes:
-    cost = best["ours", size] / int(size) / first
-    share = best["ours", size] / best["theirs", size]
-    print(f"{size:>9} changes: {cost:.2f} of the cost of a change at the first size, {share:.2f} of the script")
+    ours, first = spent["ours", size], spent["ours", sizes[0]]
+    cost = sum(ours) / sum(first)
+    share = sum(ours) / sum(spent["theirs", size])
+    single = " ".join(f"{turn / other:.2f}" for turn, other in zip(ours, first))
+    print(f"{size:>9,} changes: {cost:.2f} of the cost at the first size ({single}), {share:.2f} of the script")
 P
