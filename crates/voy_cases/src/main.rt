@@ -1,0 +1,47 @@
+//! The worked cases of the formats, as data.
+//!
+//! The standard input has paragraphs with a blank line between; the format is described at its top, and each
+//! case is written from the specification of its format. The output has what each case came to, in the same
+//! order; the gate compares it with the file `stdout`, which is written by hand too. A further case takes no proof.
+#![tactic(auto)]
+
+mod case;
+mod files;
+mod pieces;
+mod showing;
+mod trouble;
+
+use case::Case;
+use std::alloc::{AllocError, Global};
+use std::io;
+use trouble::Trouble;
+
+fn main(rt: HostRuntime) -> io::Result<()> {
+    let alloc = rt.alloc();
+    let text = io::read_to_string(alloc, rt.stdin())?;
+    for paragraph in text.as_str().split("\n\n") {
+        if let Some(case) = Case::new(text.as_str(), paragraph) {
+            let line = line_of(alloc, &case)?;
+            rt.print(line.as_str())?;
+        }
+    }
+    Ok(())
+}
+
+/// The case's name and what it came to.
+fn line_of(alloc: Global, case: &Case) -> Result<String, AllocError> {
+    let name = case.name;
+    match came_to(alloc, case) {
+        Ok(text) => format!(in alloc; "{name}: {text}\n"),
+        Err(Trouble::Case(why)) => format!(in alloc; "{name}: NO CASE: {why}\n"),
+        Err(Trouble::NoMemory) => format!(in alloc; "{name}: no memory\n"),
+    }
+}
+
+/// What the case came to.
+fn came_to(alloc: Global, case: &Case) -> Result<String, Trouble> {
+    match case.kind {
+        "name" => files::name(alloc, case),
+        _ => Err(Trouble::Case("no such kind")),
+    }
+}

@@ -1,0 +1,15 @@
+use std::alloc::AllocError;
+
+/// Why a case came to nothing.
+#[derive(Debug, Drop)]
+pub enum Trouble {
+    /// It is not written as a case is.
+    Case(&'static str),
+    NoMemory,
+}
+
+impl From<AllocError> for Trouble {
+    fn from(_error: AllocError) -> Trouble {
+        Trouble::NoMemory
+    }
+}
