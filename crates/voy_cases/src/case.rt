@@ -40,6 +40,11 @@ impl<'a> Case<'a> {
         pieces_of(alloc, self.all, self.rows)
     }
 
+    /// The same case with other rows.
+    pub fn with_rows(&self, rows: &'a str) -> Case<'a> {
+        Case { rows, ..*self }
+    }
+
     /// The base of that name.
     pub fn base(&self, alloc: Global, name: &str) -> Result<&'a str, Trouble> {
         base_of(alloc, self.all, name)

@@ -1,7 +1,10 @@
-use crate::case::Case;
+use crate::case::{Case, first_word, number_of};
+use crate::disks::{name_of, planned};
+use crate::showing::{hexadecimal, quoted_bytes};
 use crate::trouble::Trouble;
 use std::alloc::Global;
-use voy_disk::Name;
+use voy_disk::{DiskError, MemDisk, Name};
+use voy_files::{ByteReader, Found, LineReader, read_file};
 
 /// Whether the rows are the name of a file, which then has this text, and a copy of it too.
 pub fn name(alloc: Global, case: &Case) -> Result<String, Trouble> {
@@ -21,4 +24,177 @@ pub fn name(alloc: Global, case: &Case) -> Result<String, Trouble> {
     };
     let answer = String::from_str(alloc, answer)?;
     Ok(answer)
+}
+
+/// The lines that a reader with this limit finds in the rows' bytes: `lines NAME LIMIT [FAILING CALL]`.
+pub fn lines(alloc: Global, case: &Case) -> Result<String, Trouble> {
+    let (limit, failing) = first_word(case.words);
+    let limit = number_of(limit)?;
+    let (mut disk, name) = disk_of(alloc, case, failing)?;
+    let mut shown = String::new(alloc);
+    if let Err(error) = push_lines(alloc, &mut disk, name, limit as usize, &mut shown)? {
+        shown.push_str(error_text(error))?;
+    }
+    Ok(shown)
+}
+
+/// Appends each line that the reader finds, and how it ends. The inner error is that of the disk.
+fn push_lines(
+    alloc: Global,
+    disk: &mut MemDisk,
+    name: Name,
+    limit: usize,
+    to: &mut String,
+) -> Result<Result<(), DiskError>, Trouble> {
+    let mut reader = match LineReader::open(alloc, disk, name, limit) {
+        Ok(Some(reader)) => reader,
+        Ok(None) => {
+            to.push_str("no file")?;
+            return Ok(Ok(()));
+        }
+        Err(error) => return Ok(Err(error)),
+    };
+    for _ in 0..u64::MAX {
+        match reader.is_at_end(disk) {
+            Ok(false) => {}
+            Ok(true) => to.push_str("nothing left, ")?,
+            Err(error) => return Ok(Err(error)),
+        }
+        match reader.next(disk) {
+            Ok(Found::Line) => {
+                let line = quoted_bytes(alloc, reader.line())?;
+                to.push_str(line.as_str())?;
+                to.push_str(", ")?;
+            }
+            Ok(Found::TooLong) => {
+                to.push_str("too long")?;
+                return Ok(Ok(()));
+            }
+            Ok(Found::End) => {
+                to.push_str("end")?;
+                return Ok(Ok(()));
+            }
+            Err(error) => return Ok(Err(error)),
+        }
+    }
+    Ok(Ok(()))
+}
+
+/// The whole file: `file NAME [FAILING CALL]`.
+pub fn file(alloc: Global, case: &Case) -> Result<String, Trouble> {
+    let (mut disk, name) = disk_of(alloc, case, case.words)?;
+    match read_file(alloc, &mut disk, &name) {
+        Ok(Some(bytes)) => quoted_bytes(alloc, bytes.as_slice()),
+        Ok(None) => told(alloc, "no file"),
+        Err(error) => told(alloc, error_text(error)),
+    }
+}
+
+/// What a reader of bytes takes: behind the rows of the file's bytes stand the calls, each on a row `> CALL`.
+pub fn bytes(alloc: Global, case: &Case) -> Result<String, Trouble> {
+    let (pieces, calls) = match case.rows.split_once("\n> ") {
+        Some((pieces, calls)) => (pieces, calls),
+        None => return Err(Trouble::Case("no calls")),
+    };
+    let (mut disk, name) = disk_of(alloc, &case.with_rows(pieces), case.words)?;
+    let mut reader = match ByteReader::open(alloc, &mut disk, &name) {
+        Ok(Some(reader)) => reader,
+        Ok(None) => return told(alloc, "no file"),
+        Err(error) => return told(alloc, error_text(error)),
+    };
+    let mut shown = String::new(alloc);
+    for call in calls.split("\n> ") {
+        let taken = take(alloc, &mut reader, &mut disk, &name, call)?;
+        if !shown.is_empty() {
+            shown.push_str(", ")?;
+        }
+        shown.push_str(taken.as_str())?;
+    }
+    Ok(shown)
+}
+
+/// What one call of the reader gives.
+fn take(
+    alloc: Global,
+    reader: &mut ByteReader,
+    disk: &mut MemDisk,
+    name: &Name,
+    call: &str,
+) -> Result<String, Trouble> {
+    let (verb, count) = first_word(call);
+    let taken = match verb {
+        "byte" => take_byte(alloc, reader, disk, name)?,
+        "number" => take_number(alloc, reader, disk, name)?,
+        "take" => take_part(alloc, reader, disk, name, number_of(count)? as usize)?,
+        "more" => match reader.fill(disk, name) {
+            Ok(true) => String::from_str(alloc, "yes")?,
+            Ok(false) => String::from_str(alloc, "no")?,
+            Err(error) => told(alloc, error_text(error))?,
+        },
+        _ => return Err(Trouble::Case("no such call")),
+    };
+    Ok(taken)
+}
+
+fn take_byte(
+    alloc: Global,
+    reader: &mut ByteReader,
+    disk: &mut MemDisk,
+    name: &Name,
+) -> Result<String, Trouble> {
+    match reader.take_byte(disk, name) {
+        Ok(Some(byte)) => Ok(format!(in alloc; "{byte}")?),
+        Ok(None) => told(alloc, "none"),
+        Err(error) => told(alloc, error_text(error)),
+    }
+}
+
+fn take_number(
+    alloc: Global,
+    reader: &mut ByteReader,
+    disk: &mut MemDisk,
+    name: &Name,
+) -> Result<String, Trouble> {
+    match reader.take_number(disk, name) {
+        Ok(Some(number)) => Ok(format!(in alloc; "{number}")?),
+        Ok(None) => told(alloc, "none"),
+        Err(error) => told(alloc, error_text(error)),
+    }
+}
+
+fn take_part(
+    alloc: Global,
+    reader: &mut ByteReader,
+    disk: &mut MemDisk,
+    name: &Name,
+    size: usize,
+) -> Result<String, Trouble> {
+    match reader.take(disk, name, size) {
+        Ok(Some(part)) => hexadecimal(alloc, part.as_slice()),
+        Ok(None) => told(alloc, "none"),
+        Err(error) => told(alloc, error_text(error)),
+    }
+}
+
+/// A disk with the file `changes.ndjson` of the rows' bytes, whose call of this number fails, if one is given. A
+/// case without rows has no file.
+fn disk_of(alloc: Global, case: &Case, failing: &str) -> Result<(MemDisk, Name), Trouble> {
+    let name = name_of(alloc, "changes.ndjson")?;
+    let mut disk = MemDisk::new(alloc, planned(alloc, failing)?);
+    if !case.rows.is_empty() {
+        disk.put_file(&name, case.bytes(alloc)?.as_slice())?;
+    }
+    Ok((disk, name))
+}
+
+pub fn told(alloc: Global, text: &str) -> Result<String, Trouble> {
+    let told = String::from_str(alloc, text)?;
+    Ok(told)
+}
+
+pub fn error_text(error: DiskError) -> &'static str {
+    match error {
+        DiskError::Failed => "fault",
+        DiskError::NoMemory => "no memory",
+    }
 }

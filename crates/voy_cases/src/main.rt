@@ -6,7 +6,9 @@
 #![tactic(auto)]
 
 mod case;
+mod disks;
 mod files;
+mod journals;
 mod pieces;
 mod showing;
 mod trouble;
@@ -42,6 +44,11 @@ fn line_of(alloc: Global, case: &Case) -> Result<String, AllocError> {
 fn came_to(alloc: Global, case: &Case) -> Result<String, Trouble> {
     match case.kind {
         "name" => files::name(alloc, case),
+        "lines" => files::lines(alloc, case),
+        "file" => files::file(alloc, case),
+        "bytes" => files::bytes(alloc, case),
+        "disk" => disks::disk(alloc, case),
+        "journal" => journals::journal(alloc, case),
         _ => Err(Trouble::Case("no such kind")),
     }
 }

@@ -76,3 +76,15 @@ pub fn hexadecimal(alloc: Global, bytes: &[u8]) -> Result<String, Trouble> {
     let shown = hex::encode(alloc, bytes)?;
     Ok(shown)
 }
+
+/// The bytes as a text, where they are one, and else in hexadecimal behind an `x`.
+pub fn quoted_bytes(alloc: Global, bytes: &[u8]) -> Result<String, Trouble> {
+    match str::from_utf8(bytes) {
+        Ok(text) => quoted(alloc, text),
+        Err(_) => {
+            let digits = hexadecimal(alloc, bytes)?;
+            let shown = format!(in alloc; "x{digits}")?;
+            Ok(shown)
+        }
+    }
+}

@@ -12,7 +12,6 @@ ghost use Rattle.voy_txn.specs.Commits.{is_next};
 ghost use Rattle.voy_txn.specs.Contents.{contents_of};
 ghost use Rattle.voy_txn.specs.History.{vsns_after};
 ghost use Rattle.voy_txn.specs.Items.{change_of};
-ghost use Rattle.voy_txn.specs.LawfulTxn.{ascend_above};
 ghost use Rattle.voy_txn.specs.declared.txn.Txn.{Txn};
 
 use crate::slots::Slots;
@@ -20,7 +19,7 @@ use crate::table_marks::TableMarks;
 use std::alloc::{AllocError, Global};
 use voy_event::{Event, What};
 use voy_schema::{Items, Schema};
-use voy_txn::Txn;
+use voy_txn::{Txn, ascend_above};
 
 /// What a store knows beside its rows: for each channel its vsn, whether the load is there, and for each
 /// table its batches and what they and its changes came to.
@@ -140,20 +139,6 @@ impl Marks {
             }
         }
     }
-}
-
-/// Whether the vsn of each event is above that of the one in front of it, and the first above `last`.
-fn ascend_above(last: u64, items: &[Event]) -> bool
-    ensures { result ≡ ascend_above last items.now }
-{
-    let mut last = last;
-    for item in items {
-        if item.vsn <= last {
-            return false;
-        }
-        last = item.vsn;
-    }
-    true
 }
 
 /// Raises the vsn of the channel to that of the last of these events.

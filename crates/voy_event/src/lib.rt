@@ -20,8 +20,6 @@ mod line_error;
 mod line_text;
 mod recorded;
 mod recorded_line;
-#[cfg(test)]
-mod tests;
 mod words;
 
 pub use event::{Event, Events, What};

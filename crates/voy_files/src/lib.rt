@@ -11,8 +11,6 @@
 
 mod byte_reader;
 mod line_reader;
-#[cfg(test)]
-mod tests;
 mod whole;
 
 pub use byte_reader::{ByteReader, PIECE_BYTES};

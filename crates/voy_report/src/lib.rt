@@ -10,6 +10,3 @@ mod stores;
 
 pub use show::table_text;
 pub use stores::show_text;
-
-#[cfg(test)]
-mod tests;

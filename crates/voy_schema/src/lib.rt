@@ -47,6 +47,3 @@ pub use text::Text;
 pub use tuple::Tuple;
 pub use value::{Bytes, Key, Row, Rows, Value};
 pub use why::{SchemaError, SchemaWhy};
-
-#[cfg(test)]
-mod tests;

@@ -43,6 +43,3 @@ pub use reading::{read_recorded, read_rows};
 pub use row_error::{RowError, RowWhy};
 pub use row_size::{MAX_ROW_TEXT_BYTES, row_text_is_too_long};
 pub use row_text::write_row;
-
-#[cfg(test)]
-mod tests;

@@ -9,7 +9,7 @@ ghost use Rattle.voy_txn.specs.LawfulTxn.{IsLawfulItem, is_change};
 ghost use Rattle.voy_txn.specs.Payload.{item_part};
 ghost use Rattle.voy_txn.specs.Reading.{Gives, ascending_items, item_of, items_of};
 
-use crate::ascending::vsns_ascend;
+use crate::ascending::ascend_above;
 use crate::fields::{push_sized, sized_of};
 use crate::unread::Unread;
 use std::alloc::{AllocError, Global};
@@ -93,7 +93,7 @@ pub(crate) fn ascending_items(
     ensures { Gives (λ items. items) result (ascending_items schema.now.tables count bytes.now) }
 {
     let items = items_of(alloc, schema, count, bytes)?;
-    if !vsns_ascend(items.as_slice()) {
+    if !ascend_above(0, items.as_slice()) {
         return Err(Unread::NoPayload);
     }
     Ok(items)

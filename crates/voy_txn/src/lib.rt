@@ -20,19 +20,20 @@ mod fields;
 mod items;
 mod laws;
 mod limits;
+mod next;
 mod reading;
 mod rows;
 mod store;
 mod store_error;
-#[cfg(test)]
-mod tests;
 mod txn;
 mod unread;
 mod writing;
 
+pub use ascending::ascend_above;
 pub use counts::Counts;
 pub use laws::{payloads_have_readings, payloads_read_back};
 pub use limits::{MAX_CHANNELS, MAX_TXN_ITEMS};
+pub use next::is_next;
 pub use reading::read_txn;
 pub use store::Store;
 pub use store_error::StoreError;

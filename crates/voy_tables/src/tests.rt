@@ -1,4 +1,0 @@
-mod made;
-mod plain_tables;
-mod recorded_texts;
-mod row_texts;
