@@ -9,8 +9,10 @@ mod case;
 mod disks;
 mod files;
 mod journals;
+mod payloads;
 mod pieces;
 mod showing;
+mod stores;
 mod trouble;
 
 use case::Case;
@@ -49,6 +51,8 @@ fn came_to(alloc: Global, case: &Case) -> Result<String, Trouble> {
         "bytes" => files::bytes(alloc, case),
         "disk" => disks::disk(alloc, case),
         "journal" => journals::journal(alloc, case),
+        "store" => stores::store(alloc, case),
+        "stored" => stores::stored(alloc, case),
         _ => Err(Trouble::Case("no such kind")),
     }
 }
