@@ -23,8 +23,6 @@ mod recorded;
 mod segment;
 mod show;
 mod side;
-#[cfg(test)]
-mod tests;
 mod words;
 
 pub use answer::{Answer, Cause, Which};
