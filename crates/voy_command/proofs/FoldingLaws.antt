@@ -1,0 +1,105 @@
+-- How the outcome of a segment goes on, or stops, at its next line.
+use Rattle.std.proofs.Common.{◌≡◌, ℕ, suc, ◌+◌, Bool, true, false, cond, ◌&&◌, ◌||◌, not, List, ◌∷◌, Option, Some, None, Result, Ok, Err, length, is_some, refl, sym, ap, ◌∙◌, inl, inr, arith}
+use Rattle.std.proofs.lemmas.Bool.Decides.{nat_tests}
+use Rattle.std.specs.Bool.{◌==◌}
+use Rattle.std.specs.List.{list_any}
+use Rattle.voy_event.specs.EventLine.{line_reading}
+use Rattle.voy_event.specs.declared.event.Event.{Event}
+use Rattle.voy_event.specs.declared.line_error.LineWhy.{LineWhy}
+use Rattle.voy_event.specs.declared.line_error.LineWhy.TheVariants.{BadValue}
+use Rattle.voy_event.specs.declared.line_error.LineWhy.TheVariants as why
+use Rattle.voy_files.specs.LineLaws.{both_hold, is_false}
+use Rattle.voy_schema.specs.declared.table.Table.{Table}
+use Rattle.voy_schema.specs.declared.value.Value.{Value}
+use Rattle.voy_command.specs.DryRun.{line_refusal, refusing, shown}
+use Rattle.voy_command.specs.Folding.{GoesOn, IsNext, IsNoFit, IsNoNext, Stops, Takes, fold_from, lines_from, rest_from}
+use Rattle.voy_command.specs.Segment.{as_next, event_misfit, folded, is_by_source, is_cutover, lists_with, queue_of}
+use Rattle.voy_command.specs.Stops.{is_refusal}
+use Rattle.voy_command.specs.declared.answer.Answer.{Answer}
+use Rattle.voy_command.specs.declared.answer.Answer.TheVariants as answer
+use Rattle.voy_command.specs.declared.fold.Fold.{Fold}
+
+Lists : Type 0
+Lists = List (List (List Value))
+
+-- an event that passed its test
+pub chosen : (t : Bool) (e f : Event) → cond {A = Result Event LineWhy} t (Ok e) (Err BadValue) ≡ Ok f → (t ≡ true) × (e ≡ f)
+chosen true e f h = (refl, cc)
+chosen false e f h = cc
+
+-- the next event has the next vsn, and none came behind a cutover
+pub next_is : (vsn : ℕ) (ended : Bool) (r : Result Event LineWhy) (e : Event) → as_next vsn ended r ≡ Ok e → (e.vsn ≡ vsn) × (ended ≡ false)
+next_is vsn ended (Err w) e h = cc
+next_is vsn ended (Ok x) e h =
+    let took = chosen _ x e h in
+    let parts : (((x.vsn == vsn) && is_by_source x.role) ≡ true) × (not ended ≡ true) = both_hold _ _ took.0 in
+    let first : ((x.vsn == vsn) ≡ true) × (is_by_source x.role ≡ true) = both_hold _ _ parts.0 in
+    let same : x.vsn ≡ vsn = grind (arith, nat_tests, first.0) in
+    (ap (λ (y : Event). y.vsn) (sym took.1) ∙ same, is_false ended parts.1)
+
+rest_more : (schema : List Table) (last : ℕ) (e : Event) (events : List Event) (lists : List (List (List Value))) (refused : Option (ℕ × LineWhy))
+    → rest_from schema last false (e ∷ events) lists refused ≡ rest_from schema (last + 1) (is_cutover e) events lists refused
+rest_more schema last e events lists None =
+    let count : last + suc (length events) ≡ last + 1 + length events = omega arith in
+    ap (λ n. shown schema lists n (is_cutover e || list_any is_cutover events)) count
+rest_more schema last e events lists (Some refused) = refl
+
+fold_more : (schema : List Table) (last : ℕ) (e : Event) (events : List Event) (refused : Option (ℕ × LineWhy)) (f : Result (List (List (List Value))) ℕ)
+    → fold_from schema last false (record { events = e ∷ events; refused = refused }) f
+    ≡ fold_from schema (last + 1) (is_cutover e) (record { events = events; refused = refused }) f
+fold_more schema last e events refused (Err vsn) = refl
+fold_more schema last e events refused (Ok lists) = rest_more schema last e events lists refused
+
+-- with a next event that fits, the outcome is that of the lines behind it
+pub lines_more : (schema : List Table) (lists : List (List (List Value))) (last : ℕ) (ended : Bool) (line : List ℕ) (e : Event) (lines : List (List ℕ))
+    → as_next (last + 1) ended (line_reading schema line) ≡ Ok e → event_misfit schema lists e.what ≡ None
+    → lines_from schema lists last ended (line ∷ lines) ≡ lines_from schema (lists_with schema lists e.what) (last + 1) (is_cutover e) lines
+lines_more schema lists last ended line e lines next fits =
+    let facts : (e.vsn ≡ last + 1) × (ended ≡ false) = next_is (last + 1) ended (line_reading schema line) e next in
+    let behind = queue_of schema (last + 1 + 1) (is_cutover e) lines in
+    rw (next, facts.1, fits) (fold_more schema last e behind.events behind.refused (folded schema (lists_with schema lists e.what) behind.events))
+
+-- a line that states no next event ends the outcome
+pub lines_refused : (schema : List Table) (lists : List (List (List Value))) (last : ℕ) (ended : Bool) (line : List ℕ) (why : LineWhy) (lines : List (List ℕ))
+    → as_next (last + 1) ended (line_reading schema line) ≡ Err why
+    → lines_from schema lists last ended (line ∷ lines) ≡ refusing (line_refusal (last + 1) why)
+lines_refused schema lists last ended line why lines next = rw next refl
+
+-- so does an event that does not fit
+pub lines_misfit : (schema : List Table) (lists : List (List (List Value))) (last : ℕ) (ended : Bool) (line : List ℕ) (e : Event) (lines : List (List ℕ))
+    → as_next (last + 1) ended (line_reading schema line) ≡ Ok e → is_some (event_misfit schema lists e.what) ≡ true
+    → lines_from schema lists last ended (line ∷ lines) ≡ refusing (answer.Invalid e.vsn)
+lines_misfit schema lists last ended line e lines next misfit = rw (next, misfit) refl
+
+pub goes_on : (old new : Fold) (line : List ℕ) (e : Event) → IsNext old line e → Takes old e new → GoesOn old line new
+goes_on old new line e next takes = λ lines.
+    let vsn : (e.vsn ≡ old.last + 1) × (old.ended ≡ false) = next_is (old.last + 1) old.ended (line_reading old.plain.schema.tables line) e next in
+    lines_more old.plain.schema.tables old.plain.lists old.last old.ended line e lines next takes.fits
+    ∙ rw (takes.schema, takes.lists, takes.last, takes.ended, vsn.0) refl
+
+pub next_vsn : (old new : Fold) (line : List ℕ) (e : Event) → IsNext old line e → Takes old e new → new.last ≡ old.last + 1
+next_vsn old new line e next takes = takes.last ∙ (next_is _ _ _ _ next).0
+
+pub is_refusal-line_refusal : (line : ℕ) (w : LineWhy) → is_refusal (line_refusal line w) ≡ true
+is_refusal-line_refusal line why.TooLong = refl
+is_refusal-line_refusal line why.NotJson = refl
+is_refusal-line_refusal line why.BadOp = refl
+is_refusal-line_refusal line why.Missing = refl
+is_refusal-line_refusal line why.Unknown = refl
+is_refusal-line_refusal line why.BadValue = refl
+
+pub stops_no_next : (old : Fold) (line : List ℕ) (a : Answer) → IsNoNext old line a → Stops old line a
+stops_no_next old line a (inl memory) = inl memory
+stops_no_next old line a (inr refused) = inr (
+  rw refused.2 (is_refusal-line_refusal (old.last + 1) refused.0),
+  λ lines.
+      lines_refused old.plain.schema.tables old.plain.lists old.last old.ended line refused.0 lines refused.1 ∙ ap refusing (sym refused.2),
+)
+
+pub stops_no_fit : (old : Fold) (line : List ℕ) (e : Event) (a : Answer) → IsNext old line e → IsNoFit old e a → Stops old line a
+stops_no_fit old line e a next (inl memory) = inl memory
+stops_no_fit old line e a next (inr misfit) = inr (
+  rw misfit.1 refl,
+  λ lines.
+      lines_misfit old.plain.schema.tables old.plain.lists old.last old.ended line e lines next misfit.0 ∙ ap refusing (sym misfit.1),
+)

@@ -1,0 +1,33 @@
+//! The whole program `voyager`, as a library: its commands over any four disks and two sinks.
+//!
+//! The words of a command ask for one of these, over a recording, an export, and two stores:
+//!
+//! - `import data to target --dry-run` folds the exported events by the recorded schema, prints the rows
+//!   that an import would leave, and says whether the cutover event was reached.
+//! - `show target` and `show source` print the tables of a store.
+//!
+//! [`run`] is the whole program, and its clause `answered` is what is promised of it: the exit status and
+//! the text on the error output are those of an [`Answer`], and the answer stands for what was done.
+//! [`start`] gives `run` the folders below the one that the program's words name and the standard streams.
+#![tactic(auto)]
+
+mod answer;
+mod commands;
+mod dry_run;
+mod fold;
+mod host;
+mod laws;
+mod names;
+mod print;
+mod recorded;
+mod segment;
+mod show;
+mod side;
+mod words;
+
+pub use answer::{Answer, Cause, Which};
+pub use commands::{command, run};
+pub use host::start;
+pub use laws::{stores_have_one_text, valid_streams_fold};
+pub use side::Side;
+pub use words::{Asked, Phrase};

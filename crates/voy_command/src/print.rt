@@ -1,0 +1,77 @@
+ghost use Rattle.std.specs.Prelude.{◌≡◌, ◌≤◌, ◌++◌, IfErr, OnOk};
+ghost use Rattle.voy_disk.specs.Faults.{Rose};
+ghost use Rattle.voy_disk.specs.Written.{GotFront, grown};
+ghost use Rattle.voy_report.specs.Show.{tables_text};
+ghost use Rattle.voy_command.specs.DryRun.{import_line};
+ghost use Rattle.voy_command.specs.Printing.{IsOutputStop, fold_text};
+
+use crate::answer::{Answer, append_numbered};
+use crate::fold::Fold;
+use std::alloc::{AllocError, Global};
+use voy_disk::{Sink, SinkError, write_all};
+use voy_report::table_text;
+use voy_schema::{Bytes, Rows, Table};
+
+/// Prints the fold's tables, and then whether the cutover event was reached. After an error a prefix of
+/// that text was printed.
+pub fn print_fold<K: Sink>(alloc: Global, fold: &Fold, out: &mut K) -> Result<(), Answer>
+    ensures ok { OnOk result (K.written out.new ≡ grown (K.written out.old) (fold_text fold.now)) }
+    ensures front { GotFront (fold_text fold.now) (K.written out.old) (K.written out.new) }
+    ensures err { IfErr result (IsOutputStop (Rose (K.faults out.old) (K.faults out.new))) }
+    ensures later { K.faults out.old ≤ K.faults out.new }
+{
+    let mut text = Bytes::new(alloc);
+    if append_fold(alloc, fold, &mut text).is_err() {
+        return Err(Answer::NoMemory);
+    }
+    print_text(text.as_slice(), out)
+}
+
+/// Prints a text. After an error a prefix of it was printed.
+pub fn print_text<K: Sink>(text: &[u8], out: &mut K) -> Result<(), Answer>
+    ensures ok { OnOk result (K.written out.new ≡ grown (K.written out.old) text.now) }
+    ensures front { GotFront text.now (K.written out.old) (K.written out.new) }
+    ensures err { IfErr result (IsOutputStop (Rose (K.faults out.old) (K.faults out.new))) }
+    ensures later { K.faults out.old ≤ K.faults out.new }
+{
+    match write_all(out, text) {
+        Ok(()) => Ok(()),
+        Err(SinkError::Failed) => Err(Answer::OutputFault),
+        Err(SinkError::NoMemory) => Err(Answer::NoMemory),
+    }
+}
+
+fn append_fold(alloc: Global, fold: &Fold, to: &mut Bytes) -> Result<(), AllocError>
+    ensures { OnOk result (to.new ≡ to.old ++ fold_text fold.now) }
+{
+    let tables = fold.plain.schema.tables.as_slice();
+    append_tables(alloc, tables, fold.plain.lists.as_slice(), to)?;
+    append_import_line(fold.ended, fold.last, to)?;
+    Ok(())
+}
+
+fn append_tables(
+    alloc: Global,
+    tables: &[Table],
+    lists: &[Rows],
+    to: &mut Bytes,
+) -> Result<(), AllocError>
+    ensures { OnOk result (to.new ≡ to.old ++ tables_text tables.now lists.now) }
+{
+    for (table, rows) in tables.iter().zip(lists) {
+        table_text(alloc, table, rows.as_slice(), to)?;
+    }
+    Ok(())
+}
+
+/// Appends `done: last vsn <v>` or `waiting: last vsn <v>`.
+#[tactic(auto, unfolding(crate::specs::DryRun::import_line))]
+fn append_import_line(ended: bool, last: u64, to: &mut Bytes) -> Result<(), AllocError>
+    ensures { OnOk result (to.new ≡ to.old ++ import_line ended last) }
+{
+    if ended {
+        append_numbered(b"done: last vsn ", last, b"\n", to)
+    } else {
+        append_numbered(b"waiting: last vsn ", last, b"\n", to)
+    }
+}

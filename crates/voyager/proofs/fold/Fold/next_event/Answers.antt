@@ -1,7 +1,0 @@
-use Rattle.std.proofs.Common.{refl, sym, ◌∙◌, inr}
-use Rattle.voy_event.specs.declared.line_error.LineWhy.TheVariants.{BadValue}
-use Rattle.voyager.proofs.fold.Fold.next_event.Goals as goal
-
-pub returns-else-is_next-clause-err : goal.returns-else-is_next-clause-err
-returns-else-is_next-clause-err c =
-    inr (BadValue, rw (c.in-Ok.ensures.ok, sym c.is_next.ensures ∙ c.if-is_next.false) refl, c.line_refusal.ensures)
