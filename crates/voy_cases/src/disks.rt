@@ -20,37 +20,39 @@ pub fn disk(alloc: Global, case: &Case) -> Result<String, Trouble> {
     Ok(shown)
 }
 
-/// The plan of these words: `fails N M ..`, `dead N LEAVES` or none.
+/// The plan of these words, with `, ` between: `fails N M ..`, `dead N`, from which call on all fail, and `leaves N`.
 fn plan_of(alloc: Global, words: &str) -> Result<FaultPlan, Trouble> {
-    let (verb, behind) = first_word(words);
-    match verb {
-        "" => Ok(FaultPlan::none(alloc)),
-        "fails" => planned(alloc, behind),
-        "dead" => {
-            let (from, leaves) = first_word(behind);
-            Ok(FaultPlan {
-                fail: Numbers::from_vec(Vec::new(alloc)),
-                dead_from: number_of(from)?,
-                leaves: number_of(leaves)?,
-            })
+    let mut plan = FaultPlan::none(alloc);
+    for part in words.split(", ") {
+        let (verb, behind) = first_word(part);
+        match verb {
+            "" => {}
+            "fails" => plan.fail = numbers_of(alloc, behind)?,
+            "dead" => plan.dead_from = number_of(behind)?,
+            "leaves" => plan.leaves = number_of(behind)?,
+            _ => return Err(Trouble::Case("no such plan")),
         }
-        _ => Err(Trouble::Case("no such plan")),
     }
+    Ok(plan)
 }
 
 /// The plan by which the calls with these numbers fail.
 pub fn planned(alloc: Global, numbers: &str) -> Result<FaultPlan, Trouble> {
-    let mut fail = Vec::new(alloc);
-    for number in numbers.split(' ') {
-        if !number.is_empty() {
-            fail.extend_from_slice(&[number_of(number)?])?;
-        }
-    }
     Ok(FaultPlan {
-        fail: Numbers::from_vec(fail),
+        fail: numbers_of(alloc, numbers)?,
         dead_from: 0,
         leaves: 0,
     })
+}
+
+fn numbers_of(alloc: Global, text: &str) -> Result<Numbers, Trouble> {
+    let mut numbers = Vec::new(alloc);
+    for number in text.split(' ') {
+        if !number.is_empty() {
+            numbers.extend_from_slice(&[number_of(number)?])?;
+        }
+    }
+    Ok(Numbers::from_vec(numbers))
 }
 
 /// The name of a file.

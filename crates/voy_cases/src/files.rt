@@ -92,7 +92,7 @@ pub fn file(alloc: Global, case: &Case) -> Result<String, Trouble> {
 
 /// What a reader of bytes takes: behind the rows of the file's bytes stand the calls, each on a row `> CALL`.
 pub fn bytes(alloc: Global, case: &Case) -> Result<String, Trouble> {
-    let (pieces, calls) = match case.rows.split_once("\n> ") {
+    let (pieces, calls) = match case.rows.split_once("> ") {
         Some((pieces, calls)) => (pieces, calls),
         None => return Err(Trouble::Case("no calls")),
     };

@@ -8,10 +8,10 @@ use crate::pieces::push_piece;
 use crate::showing::hexadecimal;
 use crate::trouble::Trouble;
 use std::alloc::Global;
-use voy_disk::{Disk, SureDisk};
+use voy_disk::{Disk, Name, SureDisk};
 use voy_journal::{Journal, JournalError, Payloads};
 
-/// What the rows' bytes are as a journal, and the file after the payloads of the rows `> PIECE` were appended.
+/// What the rows' bytes are as a journal, and the file once the payloads of the rows `> PIECE` were appended.
 pub fn journal(alloc: Global, case: &Case) -> Result<String, Trouble> {
     let (pieces, payloads) = match case.rows.split_once("> ") {
         Some((pieces, payloads)) => (pieces, payloads),
@@ -22,16 +22,27 @@ pub fn journal(alloc: Global, case: &Case) -> Result<String, Trouble> {
     if !pieces.is_empty() {
         disk.put_file(&name, case.with_rows(pieces).bytes(alloc)?.as_slice())?;
     }
-    let mut opened = match Journal::open(alloc, &mut disk, name.copy()?) {
+    let read = open_and_append(alloc, case.all, payloads, &name, &mut disk)?;
+    let file = hexadecimal(alloc, disk.file(&name).unwrap_or(&[]))?;
+    let shown = format!(in alloc; "{read}; the file is {file}")?;
+    Ok(shown)
+}
+
+/// What the file reads as; the payloads are then appended.
+fn open_and_append(
+    alloc: Global,
+    all: &str,
+    payloads: &str,
+    name: &Name,
+    disk: &mut SureDisk,
+) -> Result<String, Trouble> {
+    let mut opened = match Journal::open(alloc, disk, name.copy()?) {
         Ok(opened) => opened,
         Err(error) => return error_text(alloc, error),
     };
-    let mut shown = payloads_text(alloc, &opened.payloads)?;
+    let shown = payloads_text(alloc, &opened.payloads)?;
     if !payloads.is_empty() {
-        append_all(alloc, case.all, payloads, &mut opened.journal, &mut disk)?;
-        let file = hexadecimal(alloc, disk.file(&name).unwrap_or(&[]))?;
-        shown.push_str("; then the file is ")?;
-        shown.push_str(file.as_str())?;
+        append_all(alloc, all, payloads, &mut opened.journal, disk)?;
     }
     Ok(shown)
 }

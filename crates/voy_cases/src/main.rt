@@ -6,6 +6,7 @@
 #![tactic(auto)]
 
 mod case;
+mod commands;
 mod disks;
 mod files;
 mod journals;
@@ -53,6 +54,7 @@ fn came_to(alloc: Global, case: &Case) -> Result<String, Trouble> {
         "journal" => journals::journal(alloc, case),
         "store" => stores::store(alloc, case),
         "stored" => stores::stored(alloc, case),
+        "command" => commands::command(alloc, case),
         _ => Err(Trouble::Case("no such kind")),
     }
 }

@@ -16,7 +16,7 @@ pub fn pieces_of(alloc: Global, all: &str, rows: &str) -> Result<Vec<u8>, Troubl
     Ok(bytes)
 }
 
-/// Appends one piece: `+TEXT`, `|TEXT` with LF, `xHEX`, `*COUNT HEX`, or `=BASE`.
+/// Appends one piece: `+TEXT`, `|TEXT` with LF, `xHEX`, `*COUNT HEX`, `=BASE`, or `~BASE` with LF.
 pub fn push_piece(
     alloc: Global,
     all: &str,
@@ -36,6 +36,10 @@ pub fn push_piece(
         }
         '*' => push_repeated(alloc, text, to)?,
         '=' => to.extend_from_slice(base_of(alloc, all, text)?.as_bytes())?,
+        '~' => {
+            to.extend_from_slice(base_of(alloc, all, text)?.as_bytes())?;
+            to.extend_from_slice(b"\n")?;
+        }
         '#' => {}
         _ => return Err(Trouble::Case("no such row")),
     }
