@@ -1,12 +1,14 @@
 -- What contents in memory say of a history, and how a transaction changes them.
-use Rattle.std.specs.Prelude.{◌≡◌, ◌||◌, List, length}
+use Rattle.std.specs.Prelude.{◌≡◌, ◌||◌, ℕ, List, Option, Some, None, length, slice_get}
 use Rattle.voy_schema.specs.declared.table.Table.{Table}
 use Rattle.voy_schema.specs.declared.value.Value.{Value}
 use Rattle.voy_contents.specs.Marks.{HasMarkPlace, NamesTables, says}
+use Rattle.voy_contents.specs.MemTables.{TupleSlots}
 use Rattle.voy_contents.specs.TableSteps.{lists_of}
 use Rattle.voy_contents.specs.WayBack.{LeadsTo}
 use Rattle.voy_contents.specs.declared.contents.MemContents.{MemContents}
 use Rattle.voy_contents.specs.declared.done.Done.{Done}
+use Rattle.voy_contents.specs.declared.mem_table.MemTable.{MemTable}
 use Rattle.voy_txn.specs.Commits.{AreCleanTables}
 use Rattle.voy_txn.specs.Contents.{Contents, is_batch}
 use Rattle.voy_txn.specs.History.{batch_of, batch_rows_after, changes_after, is_load, tables_after, vsns_after}
@@ -58,3 +60,24 @@ pub record LeadsBack (done : Done) (now : MemContents) (before : Contents) : Typ
   pub can : CanUndo done now
   pub leads : LeadsTo now.schema.tables done.way_back now.tables before.tables
   pub marks : says before.tables now.marks ≡ before
+
+-- how many places an index has, and how many there are in a table for rows and for the tuples of one of its unique keys
+abbrev pub index_places : Option TupleSlots → ℕ
+index_places None = 0
+index_places (Some index) = length index
+
+abbrev pub row_places : Option MemTable → ℕ
+row_places None = 0
+row_places (Some m) = length m.rows
+
+abbrev pub tuple_places_in : Option MemTable → ℕ → ℕ
+tuple_places_in None key = 0
+tuple_places_in (Some m) key = index_places (slice_get m.indexes key)
+
+-- how many places there are for the keys of a table, 0 where there is no such table
+unfoldable pub key_places_of : MemContents → ℕ → ℕ
+key_places_of contents table = row_places (slice_get contents.tables table)
+
+-- and for tuples of its unique key at this place, 0 where there is none
+unfoldable pub tuple_places_of : MemContents → ℕ → ℕ → ℕ
+tuple_places_of contents table key = tuple_places_in (slice_get contents.tables table) key

@@ -34,8 +34,6 @@ mod sweeping;
 mod table_marks;
 mod table_step;
 mod taking;
-#[cfg(test)]
-mod tests;
 mod tuples;
 mod turning;
 mod undo;

@@ -1,6 +1,6 @@
 ghost use Rattle.std.specs.Prelude.{◌≡◌, length, slice_get, IfOk};
 ghost use Rattle.std.specs.Option.{option_copied};
-ghost use Rattle.voy_contents.specs.Known.{known, schema_of};
+ghost use Rattle.voy_contents.specs.Known.{key_places_of, known, schema_of, tuple_places_of};
 ghost use Rattle.voy_tables.specs.Lists.{look, rows_in};
 ghost use Rattle.voy_txn.specs.Contents.{counts_of};
 ghost use Rattle.voy_txn.specs.History.{counted};
@@ -66,6 +66,30 @@ impl MemContents {
             rows: self.rows_standing(table),
             batch_rows: self.marks.batch_rows(table),
             changes: self.marks.changes(table),
+        }
+    }
+
+    /// How many places there are for keys of the table; 0 where there is no such table. Places that hold nothing
+    /// are among them, up to a [`MemContents::sweep`].
+    #[tactic(auto, unfolding(crate::specs::Known::key_places_of))]
+    pub fn key_places(&self, table: u32) -> usize
+        ensures { result ≡ key_places_of self.now table }
+    {
+        match self.tables.get(table as usize) {
+            Some(table) => table.rows.count(),
+            None => 0,
+        }
+    }
+
+    /// How many places there are for tuples of the table's unique key at the place `key`; 0 where there is no
+    /// such table or key.
+    #[tactic(auto, unfolding(crate::specs::Known::tuple_places_of))]
+    pub fn tuple_places(&self, table: u32, key: u32) -> usize
+        ensures { result ≡ tuple_places_of self.now table key }
+    {
+        match self.tables.get(table as usize) {
+            Some(table) => table.tuple_places(key),
+            None => 0,
         }
     }
 

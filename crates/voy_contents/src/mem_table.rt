@@ -5,6 +5,7 @@ ghost use Rattle.std.specs.Map.{lookup};
 ghost use Rattle.std.specs.Option.{option_copied};
 ghost use Rattle.voy_tables.specs.Keys.{key_cmp};
 ghost use Rattle.voy_schema.specs.Rows.{key_of};
+ghost use Rattle.voy_contents.specs.Known.{index_places};
 ghost use Rattle.voy_contents.specs.MemTables.{HavePlaces, IsMemTable, KeepsPlaces, KeepsRows, SweepsRows, row_at, rows_of, tuples_of};
 ghost use Rattle.voy_contents.specs.Steps.{HasStepPlaces, IsReady, IsStepOf, IsSwapped, before_of};
 ghost use Rattle.voy_schema.specs.declared.table.Table.{Table};
@@ -160,6 +161,16 @@ impl MemTable {
             &step.from.as_slice()[at],
             &step.to.as_slice()[at],
         )
+    }
+
+    /// How many places the unique key at this place of the table has for tuples; 0 where there is no such key.
+    pub(crate) fn tuple_places(&self, key: u32) -> usize
+        ensures { result ≡ index_places (slice_get self.now.indexes key) }
+    {
+        match self.indexes.get(key as usize) {
+            Some(index) => index.count(),
+            None => 0,
+        }
     }
 
     /// Sets the step's row, and gives the step the row that stood there, so that the same call sets it

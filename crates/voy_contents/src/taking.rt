@@ -108,6 +108,9 @@ impl MemContents {
 
     /// Takes away the places that were made for what was done and that hold nothing any more, as those of
     /// rows that it took away. What is known stays as it is. It takes no memory.
+    ///
+    /// No clause says which places those are: a test looks at the numbers of [`MemContents::key_places`] and
+    /// [`MemContents::tuple_places`].
     #[tactic(auto, unfolding(crate::specs::Known::known, crate::specs::Known::schema_of))]
     pub fn sweep(&mut self, done: Done)
         ensures schema { schema_of self.new ≡ schema_of self.old }

@@ -40,8 +40,6 @@ mod plan;
 mod refusals;
 mod sink;
 mod sure_disk;
-#[cfg(test)]
-mod tests;
 mod writing;
 
 pub use disk::{Disk, DiskError};

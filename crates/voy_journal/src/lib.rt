@@ -27,8 +27,6 @@ mod payloads;
 mod reading;
 mod state;
 mod storing;
-#[cfg(test)]
-mod tests;
 
 pub use error::JournalError;
 pub use laws::one_reading;

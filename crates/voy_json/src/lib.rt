@@ -10,6 +10,3 @@ mod names;
 
 pub use document::{ParseError, parse};
 pub use names::{has_all, has_only};
-
-#[cfg(test)]
-mod tests;

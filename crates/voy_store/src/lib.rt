@@ -28,8 +28,6 @@ mod open_error;
 mod opening;
 mod storing;
 mod taking;
-#[cfg(test)]
-mod tests;
 
 pub use journal_log::JournalLog;
 pub use journal_store::JournalStore;

@@ -1,6 +1,6 @@
 use Rattle.std.proofs.Common.{IsTrue}
 use Rattle.voy_journal.specs.Journal.{StandsOn, is_live}
-use Rattle.voy_journal.proofs.tests.append_pairs.Given as goal
+use Rattle.voy_tests.proofs.journals.append_pairs.Given as goal
 
 abbrev pub invariant-pairs : goal.invariant-pairs
 invariant-pairs g l = record { live : IsTrue (is_live l.journal); stands : StandsOn l.journal (g.D.Disk.files l.disk) }

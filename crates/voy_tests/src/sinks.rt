@@ -1,11 +1,8 @@
-use crate::host_sink::HostSink;
-use crate::mem_sink::MemSink;
-use crate::sink::{Sink, SinkError};
-use crate::writing::write_all;
 use std::alloc::Global;
 use std::test::Fail;
+use voy_disk::{HostSink, MemSink, Sink, SinkError, write_all};
 
-// A sink that takes at most three bytes at a call.
+/// A sink that takes at most three bytes at a call.
 struct Narrow<K> {
     inner: K,
 }
@@ -21,7 +18,7 @@ impl<K: Sink> Sink for Narrow<K> {
     }
 }
 
-// What `write_all` answers for `bytes`, and what it wrote, where the calls fail from this one on.
+/// What `write_all` answers for `bytes`, and what it wrote, where the calls fail from this one on.
 fn written(alloc: Global, bytes: &[u8], fail_from: u64) -> (Result<(), SinkError>, MemSink) {
     let mut sink = Narrow {
         inner: MemSink::new(alloc, fail_from),

@@ -1,11 +1,15 @@
 ghost use Rattle.std.specs.Prelude.{IsTrue};
 ghost use Rattle.voy_journal.specs.Journal.{StandsOn, is_live};
 
-use crate::{Journal, JournalError, Payloads, one_reading};
+use crate::made::{name_of, stopping_disk};
 use std::alloc::{AllocGlobal, Global};
 use std::process::Abort;
 use std::test::Fail;
-use voy_disk::{Disk, FaultPlan, MemDisk, Name, Numbers, SureDisk};
+use voy_disk::{Disk, MemDisk, SureDisk};
+use voy_journal::{Journal, JournalError, Payloads};
+
+/// The name of the journal's file.
+const NAME: &str = "meta.journal";
 
 /// How many calls of a disk the opening of an absent journal takes, and an append.
 const OPENING_CALLS: u64 = 5;
@@ -15,50 +19,12 @@ const APPEND_CALLS: u64 = 4;
 /// How many outages are tried at each call.
 const CHOICES: u64 = 50;
 
-fn name_of(alloc: Global) -> Result<Name, Fail> {
-    let name = Name::new(alloc, "meta.journal")?.ok_or("the text is no file name")?;
-    Ok(name)
-}
-
-// A disk all of whose calls fail from this one on; 0 for none.
-fn stopping_disk(alloc: Global, call: u64, leaves: u64) -> MemDisk {
-    let plan = FaultPlan {
-        fail: Numbers::from_vec(Vec::new(alloc)),
-        dead_from: call,
-        leaves,
-    };
-    MemDisk::new(alloc, plan)
-}
-
-fn disk_with(alloc: Global, bytes: &[u8]) -> Result<SureDisk, Fail> {
-    let mut disk = SureDisk::new(alloc);
-    disk.put_file(&name_of(alloc)?, bytes)?;
-    Ok(disk)
-}
-
 fn payloads_on<D: Disk>(alloc: Global, disk: &mut D) -> Result<Payloads, Fail> {
-    let opened = Journal::open(alloc, disk, name_of(alloc)?)?;
+    let opened = Journal::open(alloc, disk, name_of(alloc, NAME)?)?;
     Ok(opened.payloads)
 }
 
-// Opens these bytes as a journal: the place of the first damaged gate is this one, or there is none.
-fn try_damage(
-    rt: &(impl Abort + AllocGlobal),
-    bytes: &[u8],
-    want: Option<u64>,
-) -> Result<(), Fail> {
-    let alloc = rt.alloc();
-    let mut disk = disk_with(alloc, bytes)?;
-    let found = match Journal::open(alloc, &mut disk, name_of(alloc)?) {
-        Ok(_) => None,
-        Err(JournalError::Damaged { offset }) => Some(offset),
-        Err(other) => return Err(other.into()),
-    };
-    assert_eq!(rt; found, want, "in {bytes:?}");
-    Ok(())
-}
-
-// Appends the payloads 1 1, 2 2 and so on, up to the first error. How many were acknowledged.
+/// Appends the payloads 1 1, 2 2 and so on, up to the first error. How many were acknowledged.
 fn append_pairs<D: Disk>(journal: &mut Journal, disk: &mut D, count: u8) -> u8
     requires live { IsTrue (is_live journal.old) }
     requires stands { StandsOn journal.old (D.files disk.old) }
@@ -73,7 +39,7 @@ fn append_pairs<D: Disk>(journal: &mut Journal, disk: &mut D, count: u8) -> u8
     acknowledged
 }
 
-// Appends as many of the letter a as the first length says, as many of b as the second, and so on.
+/// Appends as many of the letter a as the first length says, as many of b as the second, and so on.
 fn append_letters<D: Disk>(
     alloc: Global,
     journal: &mut Journal,
@@ -91,13 +57,13 @@ fn append_letters<D: Disk>(
     Ok(())
 }
 
-// They are the first of 1 1, 2 2 and so on.
+/// They are the first of 1 1, 2 2 and so on.
 fn are_pairs(payloads: &[Vec<u8>]) -> bool {
     payloads.iter().zip(1..=u8::MAX).all(|(payload, byte)| payload.as_slice()
         == [byte, byte].as_slice())
 }
 
-// What an outage leaves of a disk that stopped at a call of some appends.
+/// What an outage leaves of a disk that stopped at a call of some appends.
 #[derive(Drop)]
 struct Left {
     disk: MemDisk,
@@ -106,17 +72,17 @@ struct Left {
 
 fn stopped_at(alloc: Global, call: u64, choice: u64, appends: u8) -> Result<Left, Fail> {
     let mut disk = stopping_disk(alloc, OPENING_CALLS.saturating_add(call), choice);
-    let mut opened = Journal::open(alloc, &mut disk, name_of(alloc)?)?;
+    let mut opened = Journal::open(alloc, &mut disk, name_of(alloc, NAME)?)?;
     let acknowledged = append_pairs(&mut opened.journal, &mut disk, appends);
     disk.crash(choice)?;
     Ok(Left { disk, acknowledged })
 }
 
-// Three appends, of which this call stops, an outage, an opening and one more append.
+/// Three appends, of which this call stops, an outage, an opening and one more append.
 fn try_outage(rt: &(impl Abort + AllocGlobal), call: u64, choice: u64) -> Result<(), Fail> {
     let alloc = rt.alloc();
     let mut left = stopped_at(alloc, call, choice, 3)?;
-    let mut opened = Journal::open(alloc, &mut left.disk, name_of(alloc)?)?;
+    let mut opened = Journal::open(alloc, &mut left.disk, name_of(alloc, NAME)?)?;
     let mut old = opened.payloads.into_vec();
     assert!(rt; old.len() <= 3, "stopped at call {call}, outage {choice}");
     assert!(rt;
@@ -131,24 +97,10 @@ fn try_outage(rt: &(impl Abort + AllocGlobal), call: u64, choice: u64) -> Result
     Ok(())
 }
 
-// A closed gate and other bytes behind it: no payload, and an append writes over them.
-fn try_closed(rt: &(impl Abort + AllocGlobal), gate: u8) -> Result<(), Fail> {
-    let alloc = rt.alloc();
-    let mut disk = disk_with(alloc, &[gate, 1, 0xff, 0xff])?;
-    let mut opened = Journal::open(alloc, &mut disk, name_of(alloc)?)?;
-    assert!(rt; opened.payloads.as_slice().is_empty());
-    opened.journal.append(&mut disk, &[9])?;
-    assert_eq!(rt;
-        disk.file(&name_of(alloc)?),
-        Some([1, 0, 0, 0, 1, 9, 0].as_slice())
-    );
-    Ok(())
-}
-
 fn try_fault_at_opening(rt: &(impl Abort + AllocGlobal), call: u64) -> Result<(), Fail> {
     let alloc = rt.alloc();
     let mut disk = stopping_disk(alloc, call, 0);
-    let opened = Journal::open(alloc, &mut disk, name_of(alloc)?);
+    let opened = Journal::open(alloc, &mut disk, name_of(alloc, NAME)?);
     assert!(rt;
         matches!(opened, Err(JournalError::Fault)),
         "at call {call}"
@@ -159,14 +111,14 @@ fn try_fault_at_opening(rt: &(impl Abort + AllocGlobal), call: u64) -> Result<()
 fn try_fault_at_append(rt: &(impl Abort + AllocGlobal), call: u64) -> Result<(), Fail> {
     let alloc = rt.alloc();
     let mut disk = stopping_disk(alloc, OPENING_CALLS.saturating_add(call), 0);
-    let mut opened = Journal::open(alloc, &mut disk, name_of(alloc)?)?;
+    let mut opened = Journal::open(alloc, &mut disk, name_of(alloc, NAME)?)?;
     let appended = opened.journal.append(&mut disk, &[1, 1]);
     assert_eq!(rt; appended, Err(JournalError::Fault), "at call {call}");
     assert!(rt; !opened.journal.live());
     Ok(())
 }
 
-// One append that this call stops, and an outage: at most so many payloads stand.
+/// One append that this call stops, and an outage: at most so many payloads stand.
 fn try_stop(
     rt: &(impl Abort + AllocGlobal),
     call: u64,
@@ -191,9 +143,9 @@ fn an_append_is_an_open_gate_a_length_the_payload_and_a_closed_gate(
     rt: HostRuntime,
 ) -> Result<(), Fail> {
     let alloc = rt.alloc();
-    let name = name_of(alloc)?;
+    let name = name_of(alloc, NAME)?;
     let mut disk = stopping_disk(alloc, 0, 0);
-    let mut opened = Journal::open(alloc, &mut disk, name_of(alloc)?)?;
+    let mut opened = Journal::open(alloc, &mut disk, name_of(alloc, NAME)?)?;
     assert!(rt; opened.payloads.as_slice().is_empty());
     assert_eq!(rt; disk.calls(), OPENING_CALLS);
     assert_eq!(rt; disk.file(&name), Some([0].as_slice()));
@@ -204,7 +156,6 @@ fn an_append_is_an_open_gate_a_length_the_payload_and_a_closed_gate(
     let payloads = payloads_on(alloc, &mut disk)?.into_vec();
     assert_eq!(rt; payloads.len(), 1);
     assert!(rt; are_pairs(&payloads));
-    one_reading();
     Ok(())
 }
 
@@ -234,27 +185,6 @@ fn after_an_outage_each_acknowledged_payload_stands_and_appends_go_on(
 }
 
 #[test]
-fn damage_is_found_at_its_gate(rt: HostRuntime) -> Result<(), Fail> {
-    try_damage(&rt, &[1, 0, 0, 0, 2, 1], Some(0))?;
-    try_damage(&rt, &[1, 0x40, 0, 0, 1, 0], Some(0))?;
-    try_damage(&rt, &[1, 0, 0], Some(0))?;
-    try_damage(&rt, &[1, 0, 0, 0, 2, 1, 1], Some(0))?;
-    try_damage(&rt, &[1, 0, 0, 0, 1, 0x41, 1, 0, 0], Some(6))?;
-    try_damage(&rt, &[1, 0, 0, 0, 0, 0], None)?;
-    try_damage(&rt, &[1], None)?;
-    try_damage(&rt, &[], None)?;
-    Ok(())
-}
-
-#[test]
-fn what_stands_behind_a_closed_gate_means_nothing(rt: HostRuntime) -> Result<(), Fail> {
-    for gate in [0, 2, 255] {
-        try_closed(&rt, gate)?;
-    }
-    Ok(())
-}
-
-#[test]
 fn a_fault_is_handed_on_and_ends_the_journal(rt: HostRuntime) -> Result<(), Fail> {
     for call in 1..=OPENING_CALLS {
         try_fault_at_opening(&rt, call)?;
@@ -270,7 +200,7 @@ fn payloads_may_span_the_pieces_that_are_read(rt: HostRuntime) -> Result<(), Fai
     let alloc = rt.alloc();
     let lengths = [65_525, 0, 3, 200_000, 1, 65_536, 2];
     let mut disk = SureDisk::new(alloc);
-    let mut opened = Journal::open(alloc, &mut disk, name_of(alloc)?)?;
+    let mut opened = Journal::open(alloc, &mut disk, name_of(alloc, NAME)?)?;
     append_letters(alloc, &mut opened.journal, &mut disk, &lengths)?;
     let payloads = payloads_on(alloc, &mut disk)?;
     let found = payloads.as_slice();

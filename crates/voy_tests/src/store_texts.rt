@@ -1,56 +1,70 @@
-use crate::log::Log;
-use crate::log_store::LogStore;
+ghost use Rattle.std.specs.Prelude.{◌≡◌, true, IfOk, OnOk};
+ghost use Rattle.voy_txn.specs.Commits.{is_next};
+ghost use Rattle.voy_txn.specs.LawfulTxn.{ascend_above};
+
 use std::alloc::{AllocError, Global};
-use std::process::Abort;
 use std::test::Fail;
+use voy_event::Event;
 use voy_schema::{Bytes, Row, Schema, Value};
 use voy_tables::Misfit;
-use voy_txn::{Store, StoreError, read_txn};
-
-mod in_memory;
-mod over_a_journal;
-
-ghost use Rattle.std.specs.Prelude.{◌≡◌, true, IfOk, OnOk};
-
-/// `users` with the bigint key `id` and the unique text `email`.
-const USERS: &[u8] =
-    br#"{"tables":[{"schema_name":"public","table_name":"users","columns":[{"name":"id","type":"bigint"},{"name":"email","type":"text"}],"primary_key":["id"],"unique_keys":[{"columns":["email"]}]}]}"#;
+use voy_txn::{Store, StoreError, Txn, read_txn};
 
 /// The rows `1,a` and `2,b` as batch 1.
-const BATCH: &[u8] = b"B\0\0\0\0\0\0\0\x01\0\0\0\x02\0\0\0\x081,a\n2,b\n";
+pub(crate) const BATCH: &[u8] = b"B\0\0\0\0\0\0\0\x01\0\0\0\x02\0\0\0\x081,a\n2,b\n";
 
-fn users(alloc: Global) -> Result<Schema, Fail> {
-    match Schema::read(alloc, USERS) {
-        Ok(schema) => Ok(schema),
-        Err(_refused) => Err("a schema".into()),
-    }
-}
-
-/// Commits the transaction whose payload this is, where the store may take it.
-fn commit<L: Log>(
+/// Commits the transaction whose payload this is, where the store, which is of this schema, may take it.
+pub(crate) fn commit<S: Store>(
     alloc: Global,
-    store: &mut LogStore<L>,
+    schema: &Schema,
+    store: &mut S,
     payload: &[u8],
 ) -> Result<Result<(), StoreError>, Fail>
-    requires live { L.is_live store.old.log ≡ true }
-    requires stands { L.stands store.old.log }
-    ensures live { IfOk result (λ answer. OnOk answer (L.is_live store.new.log ≡ true)) }
-    ensures stands { IfOk result (λ answer. OnOk answer (L.stands store.new.log)) }
+    requires schema { S.schema store.old ≡ schema.now.tables }
+    requires live { S.is_live store.old ≡ true }
+    requires stands { S.stands store.old }
+    ensures schema { S.schema store.new ≡ S.schema store.old }
+    ensures live { IfOk result (λ answer. OnOk answer (S.is_live store.new ≡ true)) }
+    ensures stands { IfOk result (λ answer. OnOk answer (S.stands store.new)) }
 {
-    let Some(txn) = read_txn(alloc, store.contents.schema(), payload)? else {
+    let Some(txn) = read_txn(alloc, schema, payload)? else {
         return Err("no transaction".into());
     };
-    if payload.len() > 1000 || !store.contents.is_next(&txn) {
+    if payload.len() > 1000 || !is_next(store, &txn) {
         return Err("no transaction that may be next".into());
     }
     Ok(store.commit(&txn))
 }
 
+/// Whether the store may take the transaction.
+fn is_next<S: Store>(store: &S, txn: &Txn) -> bool
+    ensures { result ≡ is_next (S.contents store.now) txn.now }
+{
+    match txn {
+        Txn::Load { .. } => !store.loaded(),
+        Txn::Batch { table, number, .. } => !store.has_batch(*table, *number),
+        Txn::Events { channel, items } => ascend_above(store.last(*channel), items.as_slice()),
+    }
+}
+
+/// Whether the vsn of each event is above that of the one in front of it, and the first above `last`.
+fn ascend_above(last: u64, items: &[Event]) -> bool
+    ensures { result ≡ ascend_above last items.now }
+{
+    let mut last = last;
+    for item in items {
+        if item.vsn <= last {
+            return false;
+        }
+        last = item.vsn;
+    }
+    true
+}
+
 /// What a commit answered, the rows of the table with `;` behind each, its rows, batch rows and changes,
 /// and the vsn of channel 1.
-fn told<L: Log>(
+pub(crate) fn told<S: Store>(
     alloc: Global,
-    store: &LogStore<L>,
+    store: &S,
     answer: Result<(), StoreError>,
 ) -> Result<String, AllocError> {
     let mut told = answer_text(alloc, answer)?;
@@ -92,7 +106,7 @@ fn misfit_text(why: Misfit) -> &'static str {
 
 /// The payload of these changes of a channel, with commas between. A change is its kind, its vsn, its id and
 /// its email, or both emails of an update.
-fn events(alloc: Global, channel: u32, changes: &str) -> Result<Bytes, Fail> {
+pub(crate) fn events(alloc: Global, channel: u32, changes: &str) -> Result<Bytes, Fail> {
     let mut lines = Bytes::new(alloc);
     let mut count: usize = 0;
     for change in changes.split(',') {

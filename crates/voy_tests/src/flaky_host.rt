@@ -5,7 +5,7 @@ use std::io;
 use std::io::{ErrorKind, Read, Seek, SeekFrom, Write};
 use std::rt::Files;
 
-// What a host was asked for, and how it is to answer.
+/// What a host was asked for, and how it is to answer.
 #[derive(Drop)]
 pub struct Notes {
     pub syncs: Cell<u64>,
@@ -32,7 +32,7 @@ impl Notes {
     }
 }
 
-// A host that counts its syncs, and whose reads, writes, cuts and syncs fail while its notes say so.
+/// A host that counts its syncs, and whose reads, writes, cuts and syncs fail while its notes say so.
 #[derive(Drop)]
 pub struct FlakyHost<'a, R> {
     pub host: R,

@@ -1,17 +1,19 @@
 ghost use Rattle.std.specs.Prelude.{◌≡◌, true, IfOk, IsTrue};
+ghost use Rattle.voy_contents.specs.Known.{schema_of};
 ghost use Rattle.voy_journal.specs.Journal.{StandsOn, is_live};
 
-use super::{BATCH, commit, events, push_length, told, users};
-use crate::journal_store::JournalStore;
-use crate::log::Log;
-use crate::log_store::LogStore;
-use crate::open_error::{NotOpened, OpenError};
+use crate::made::{disk_with, name_of, stopping_disk, users};
+use crate::store_texts::{BATCH, commit, events, told};
 use std::alloc::{AllocGlobal, Global};
 use std::process::Abort;
 use std::test::Fail;
-use voy_disk::{Disk, FaultPlan, MemDisk, Name, Numbers, SureDisk};
-use voy_schema::Bytes;
+use voy_disk::{Disk, SureDisk};
+use voy_schema::{Copies, Schema};
+use voy_store::{JournalStore, NotOpened, OpenError};
 use voy_txn::Store;
+
+/// The name of the journal's file.
+const NAME: &str = "store.journal";
 
 /// How many calls of a disk the opening of an absent journal takes, and a commit.
 const OPENING_CALLS: u64 = 5;
@@ -35,12 +37,13 @@ const AFTER: [&str; 4] = [
 #[test]
 fn a_commit_is_one_payload_of_the_journal(rt: HostRuntime) -> Result<(), Fail> {
     let alloc = rt.alloc();
-    let mut store = opened(alloc, SureDisk::new(alloc))?;
-    let answer = commit(alloc, &mut store, BATCH)?;
+    let schema = users(alloc)?;
+    let mut store = opened(alloc, &schema, SureDisk::new(alloc))?;
+    let answer = commit(alloc, &schema, &mut store, BATCH)?;
     assert_eq!(rt; told(alloc, &store, answer)?.as_str(), AFTER[1]);
     let disk = store.into_disk();
-    assert_eq!(rt; disk.file(&journal_name(alloc)?), Some(BATCH_JOURNAL));
-    let again = opened(alloc, disk)?;
+    assert_eq!(rt; disk.file(&name_of(alloc, NAME)?), Some(BATCH_JOURNAL));
+    let again = opened(alloc, &schema, disk)?;
     assert!(rt; again.has_batch(0, 1));
     assert!(rt; again.live());
     assert_eq!(rt; told(alloc, &again, Ok(()))?.as_str(), AFTER[1]);
@@ -50,32 +53,20 @@ fn a_commit_is_one_payload_of_the_journal(rt: HostRuntime) -> Result<(), Fail> {
 #[test]
 fn a_refused_commit_leaves_the_journal(rt: HostRuntime) -> Result<(), Fail> {
     let alloc = rt.alloc();
-    let mut store = opened(alloc, disk_with(alloc, BATCH_JOURNAL)?)?;
+    let schema = users(alloc)?;
+    let mut store = opened(alloc, &schema, disk_with(alloc, NAME, BATCH_JOURNAL)?)?;
     let payload = events(alloc, 1, "c 1 3 c,c 2 1 d")?;
-    let answer = commit(alloc, &mut store, payload.as_slice())?;
+    let answer = commit(alloc, &schema, &mut store, payload.as_slice())?;
     assert_eq!(rt;
         told(alloc, &store, answer)?.as_str(),
         "1 key taken 1|a;2|b; 2/2/0 0"
     );
     assert!(rt; store.live());
     assert_eq!(rt;
-        store.into_disk().file(&journal_name(alloc)?),
+        store.into_disk().file(&name_of(alloc, NAME)?),
         Some(BATCH_JOURNAL)
     );
     Ok(())
-}
-
-#[test]
-fn damage_is_found_at_its_gate(rt: HostRuntime) -> Result<(), Fail> {
-    // a journal that is not whole
-    try_damage(&rt, &BATCH_JOURNAL[..20], 0)?;
-    // a payload that is no transaction, and a batch of another table
-    try_damage(&rt, b"\x01\0\0\0\x01C\0", 0)?;
-    try_behind(&rt, b"B\0\0\0\x01\0\0\0\x02\0\0\0\x01\0\0\0\x043,c\n")?;
-    // a batch that has a marker, and one whose rows do not fit
-    try_behind(&rt, BATCH)?;
-    try_behind(&rt, b"B\0\0\0\0\0\0\0\x02\0\0\0\x01\0\0\0\x042,c\n")?;
-    try_behind(&rt, b"B\0\0\0\0\0\0\0\x02\0\0\0\x01\0\0\0\x043,a\n")
 }
 
 #[test]
@@ -104,11 +95,12 @@ fn a_fault_is_handed_on_and_ends_the_store(rt: HostRuntime) -> Result<(), Fail> 
 fn try_outage(rt: &(impl Abort + AllocGlobal), call: u64, choice: u64) -> Result<(), Fail> {
     let alloc = rt.alloc();
     let disk = stopping_disk(alloc, OPENING_CALLS.saturating_add(call), choice);
-    let mut store = opened(alloc, disk)?;
-    let acknowledged = commit_three(alloc, &mut store)?;
+    let schema = users(alloc)?;
+    let mut store = opened(alloc, &schema, disk)?;
+    let acknowledged = commit_three(alloc, &schema, &mut store)?;
     let mut disk = store.into_disk();
     disk.crash(choice)?;
-    let again = opened(alloc, disk)?;
+    let again = opened(alloc, &schema, disk)?;
     let found = told(alloc, &again, Ok(()))?;
     assert!(rt;
         AFTER
@@ -121,19 +113,20 @@ fn try_outage(rt: &(impl Abort + AllocGlobal), call: u64, choice: u64) -> Result
 }
 
 /// A batch and two runs of changes of channel 1, up to the first error. How many were acknowledged.
-fn commit_three<L: Log>(alloc: Global, store: &mut LogStore<L>) -> Result<usize, Fail>
-    requires live { L.is_live store.old.log ≡ true }
-    requires stands { L.stands store.old.log }
+fn commit_three<S: Store>(alloc: Global, schema: &Schema, store: &mut S) -> Result<usize, Fail>
+    requires schema { S.schema store.old ≡ schema.now.tables }
+    requires live { S.is_live store.old ≡ true }
+    requires stands { S.stands store.old }
 {
-    if commit(alloc, store, BATCH)?.is_err() {
+    if commit(alloc, schema, store, BATCH)?.is_err() {
         return Ok(0);
     }
     let second = events(alloc, 1, "c 1 3 c")?;
-    if commit(alloc, store, second.as_slice())?.is_err() {
+    if commit(alloc, schema, store, second.as_slice())?.is_err() {
         return Ok(1);
     }
     let third = events(alloc, 1, "d 2 2 b,u 3 3 c b")?;
-    if commit(alloc, store, third.as_slice())?.is_err() {
+    if commit(alloc, schema, store, third.as_slice())?.is_err() {
         return Ok(2);
     }
     Ok(3)
@@ -155,65 +148,21 @@ fn try_fault_at_opening(rt: &(impl Abort + AllocGlobal), call: u64) -> Result<()
 fn try_fault_at_commit(rt: &(impl Abort + AllocGlobal), call: u64) -> Result<(), Fail> {
     let alloc = rt.alloc();
     let disk = stopping_disk(alloc, OPENING_CALLS.saturating_add(call), 0);
-    let mut store = opened(alloc, disk)?;
-    let answer = commit(alloc, &mut store, BATCH)?;
+    let schema = users(alloc)?;
+    let mut store = opened(alloc, &schema, disk)?;
+    let answer = commit(alloc, &schema, &mut store, BATCH)?;
     assert_eq!(rt; told(alloc, &store, answer)?.as_str(), "fault  0/0/0 0");
     assert!(rt; !store.live());
     Ok(())
 }
 
-/// The store over these bytes is damaged at this gate.
-fn try_damage(rt: &(impl Abort + AllocGlobal), bytes: &[u8], offset: u64) -> Result<(), Fail> {
-    let alloc = rt.alloc();
-    let name = journal_name(alloc)?;
-    match JournalStore::open(alloc, users(alloc)?, disk_with(alloc, bytes)?) {
-        Ok(_store) => return Err("opened".into()),
-        Err(NotOpened { disk, why }) => {
-            assert_eq!(rt; why, OpenError::Damaged { offset }, "in {bytes:?}");
-            assert_eq!(rt; disk.file(&name), Some(bytes));
-        }
-    }
-    Ok(())
-}
-
-/// With this payload behind the batch the store is damaged at the second gate.
-fn try_behind(rt: &(impl Abort + AllocGlobal), payload: &[u8]) -> Result<(), Fail> {
-    let mut bytes = Bytes::new(rt.alloc());
-    bytes.append_slice(&BATCH_JOURNAL[..30])?;
-    bytes.push(1)?;
-    push_length(payload.len(), &mut bytes)?;
-    bytes.append_slice(payload)?;
-    bytes.push(0)?;
-    try_damage(rt, bytes.as_slice(), 30)
-}
-
-fn opened<D: Disk + Drop>(alloc: Global, disk: D) -> Result<JournalStore<D>, Fail>
+fn opened<D: Disk + Drop>(alloc: Global, schema: &Schema, disk: D) -> Result<JournalStore<D>, Fail>
+    ensures schema { IfOk result (λ store. schema_of store.contents ≡ schema.now.tables) }
     ensures live { IfOk result (λ store. IsTrue (is_live store.log.journal)) }
     ensures stands { IfOk result (λ store. StandsOn store.log.journal (D.files store.log.disk)) }
 {
-    match JournalStore::open(alloc, users(alloc)?, disk) {
+    match JournalStore::open(alloc, schema.copy()?, disk) {
         Ok(store) => Ok(store),
         Err(_refused) => Err("no store".into()),
     }
-}
-
-fn journal_name(alloc: Global) -> Result<Name, Fail> {
-    let name = Name::new(alloc, "store.journal")?.ok_or("the text is no file name")?;
-    Ok(name)
-}
-
-fn disk_with(alloc: Global, bytes: &[u8]) -> Result<SureDisk, Fail> {
-    let mut disk = SureDisk::new(alloc);
-    disk.put_file(&journal_name(alloc)?, bytes)?;
-    Ok(disk)
-}
-
-/// A disk all of whose calls fail from this one on; 0 for none.
-fn stopping_disk(alloc: Global, call: u64, leaves: u64) -> MemDisk {
-    let plan = FaultPlan {
-        fail: Numbers::from_vec(Vec::new(alloc)),
-        dead_from: call,
-        leaves,
-    };
-    MemDisk::new(alloc, plan)
 }

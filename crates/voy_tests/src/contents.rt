@@ -1,17 +1,13 @@
 ghost use Rattle.std.specs.Prelude.{IfOk};
 ghost use Rattle.voy_contents.specs.Known.{CanUndo, HasRoomFor};
 
-use crate::contents::MemContents;
-use crate::done::Done;
+use crate::made::users;
 use std::alloc::Global;
 use std::process::Abort;
 use std::test::Fail;
-use voy_schema::{Bytes, Items, Key, Schema, Text};
+use voy_contents::{Done, MemContents};
+use voy_schema::{Bytes, Items, Key, Text};
 use voy_txn::{Counts, Txn, read_txn};
-
-/// `users` with the bigint key `id` and the text `email`, which is unique.
-const USERS: &[u8] =
-    br#"{"tables":[{"schema_name":"public","table_name":"users","columns":[{"name":"id","type":"bigint"},{"name":"email","type":"text"}],"primary_key":["id"],"unique_keys":[{"columns":["email"]}]}]}"#;
 
 /// Batch 1 of the rows 1 and 2.
 const BATCH: &[u8] = b"B\0\0\0\0\0\0\0\x01\0\0\0\x02\0\0\0\x081,a\n2,b\n";
@@ -26,7 +22,7 @@ const DELETE: &[u8] =
 #[test]
 fn a_batch_a_delete_and_a_load_are_taken(rt: HostRuntime) -> Result<(), Fail> {
     let alloc = rt.alloc();
-    let mut contents = no_users(alloc)?;
+    let mut contents = MemContents::new(alloc, users(alloc)?)?;
     take(&rt, alloc, &mut contents, BATCH)?;
     expect(&rt, &contents, 2, 0)?;
     assert!(rt; contents.has_batch(0, 1));
@@ -46,7 +42,7 @@ fn a_batch_a_delete_and_a_load_are_taken(rt: HostRuntime) -> Result<(), Fail> {
 #[test]
 fn what_was_done_is_undone(rt: HostRuntime) -> Result<(), Fail> {
     let alloc = rt.alloc();
-    let mut contents = no_users(alloc)?;
+    let mut contents = MemContents::new(alloc, users(alloc)?)?;
     take(&rt, alloc, &mut contents, BATCH)?;
     let delete = delete(alloc)?;
     take_back(&rt, alloc, &mut contents, delete.as_slice())?;
@@ -61,30 +57,20 @@ fn what_was_done_is_undone(rt: HostRuntime) -> Result<(), Fail> {
 #[test]
 fn places_that_hold_nothing_are_taken_away(rt: HostRuntime) -> Result<(), Fail> {
     let alloc = rt.alloc();
-    let mut contents = no_users(alloc)?;
+    let mut contents = MemContents::new(alloc, users(alloc)?)?;
     take(&rt, alloc, &mut contents, BATCH)?;
-    assert_eq!(rt; places(&contents), Some((2, 2)));
+    assert_eq!(rt; places(&contents), (2, 2));
     let delete = delete(alloc)?;
     take_back(&rt, alloc, &mut contents, delete.as_slice())?;
-    assert_eq!(rt; places(&contents), Some((2, 2)));
+    assert_eq!(rt; places(&contents), (2, 2));
     take(&rt, alloc, &mut contents, delete.as_slice())?;
-    assert_eq!(rt; places(&contents), Some((1, 1)));
+    assert_eq!(rt; places(&contents), (1, 1));
     Ok(())
 }
 
 /// How many places there are for keys of `users`, and for tuples of its unique key.
-fn places(contents: &MemContents) -> Option<(usize, usize)> {
-    let users = contents.tables.get(0)?;
-    let emails = users.indexes.get(0)?;
-    Some((users.rows.values().count(), emails.values().count()))
-}
-
-fn no_users(alloc: Global) -> Result<MemContents, Fail> {
-    let Ok(schema) = Schema::read(alloc, USERS) else {
-        return Err("a schema".into());
-    };
-    let contents = MemContents::new(alloc, schema)?;
-    Ok(contents)
+fn places(contents: &MemContents) -> (usize, usize) {
+    (contents.key_places(0), contents.tuple_places(0, 0))
 }
 
 /// The delete as a transaction of channel 1.
