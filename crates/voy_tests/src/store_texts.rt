@@ -1,13 +1,10 @@
 ghost use Rattle.std.specs.Prelude.{◌≡◌, true, IfOk, OnOk};
-ghost use Rattle.voy_txn.specs.Commits.{is_next};
-ghost use Rattle.voy_txn.specs.LawfulTxn.{ascend_above};
 
 use std::alloc::{AllocError, Global};
 use std::test::Fail;
-use voy_event::Event;
 use voy_schema::{Bytes, Row, Schema, Value};
 use voy_tables::Misfit;
-use voy_txn::{Store, StoreError, Txn, read_txn};
+use voy_txn::{Store, StoreError, is_next, read_txn};
 
 /// The rows `1,a` and `2,b` as batch 1.
 pub(crate) const BATCH: &[u8] = b"B\0\0\0\0\0\0\0\x01\0\0\0\x02\0\0\0\x081,a\n2,b\n";
@@ -33,31 +30,6 @@ pub(crate) fn commit<S: Store>(
         return Err("no transaction that may be next".into());
     }
     Ok(store.commit(&txn))
-}
-
-/// Whether the store may take the transaction.
-fn is_next<S: Store>(store: &S, txn: &Txn) -> bool
-    ensures { result ≡ is_next (S.contents store.now) txn.now }
-{
-    match txn {
-        Txn::Load { .. } => !store.loaded(),
-        Txn::Batch { table, number, .. } => !store.has_batch(*table, *number),
-        Txn::Events { channel, items } => ascend_above(store.last(*channel), items.as_slice()),
-    }
-}
-
-/// Whether the vsn of each event is above that of the one in front of it, and the first above `last`.
-fn ascend_above(last: u64, items: &[Event]) -> bool
-    ensures { result ≡ ascend_above last items.now }
-{
-    let mut last = last;
-    for item in items {
-        if item.vsn <= last {
-            return false;
-        }
-        last = item.vsn;
-    }
-    true
 }
 
 /// What a commit answered, the rows of the table with `;` behind each, its rows, batch rows and changes,
