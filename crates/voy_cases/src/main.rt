@@ -8,13 +8,20 @@
 mod case;
 mod commands;
 mod disks;
+mod documents;
+mod events;
 mod files;
 mod journals;
 mod payloads;
 mod pieces;
+mod plain;
+mod rows;
+mod schemas;
 mod showing;
 mod stores;
 mod trouble;
+mod txns;
+mod values;
 
 use case::Case;
 use std::alloc::{AllocError, Global};
@@ -39,6 +46,7 @@ fn line_of(alloc: Global, case: &Case) -> Result<String, AllocError> {
     match came_to(alloc, case) {
         Ok(text) => format!(in alloc; "{name}: {text}\n"),
         Err(Trouble::Case(why)) => format!(in alloc; "{name}: NO CASE: {why}\n"),
+        Err(Trouble::Apart(why)) => format!(in alloc; "{name}: NOT SO: {why}\n"),
         Err(Trouble::NoMemory) => format!(in alloc; "{name}: no memory\n"),
     }
 }
@@ -46,6 +54,28 @@ fn line_of(alloc: Global, case: &Case) -> Result<String, AllocError> {
 /// What the case came to.
 fn came_to(alloc: Global, case: &Case) -> Result<String, Trouble> {
     match case.kind {
+        "document" => documents::document(alloc, case),
+        "schema" => schemas::schema(alloc, case),
+        "schema-limit" => schemas::limit(alloc, case),
+        "values" => schemas::values(alloc, case),
+        "lawful" => schemas::lawful(alloc, case),
+        "find" => schemas::find(alloc, case),
+        "text" => schemas::text(alloc, case),
+        "order" => schemas::order(alloc, case),
+        "row" => rows::row(alloc, case),
+        "row-limit" => rows::limit(alloc, case),
+        "rows" => rows::rows(alloc, case),
+        "made-rows" => rows::made(alloc, case),
+        "csv" => rows::recorded(alloc, case),
+        "table" => rows::table(alloc, case),
+        "plain" => plain::plain(alloc, case),
+        "formed" => plain::formed(alloc, case),
+        "key" => plain::key(alloc, case),
+        "event" => events::event(alloc, case),
+        "recorded" => events::recorded(alloc, case),
+        "written" => events::written(alloc, case),
+        "exported" => events::exported(alloc, case),
+        "txn" => txns::txn(alloc, case),
         "name" => files::name(alloc, case),
         "lines" => files::lines(alloc, case),
         "file" => files::file(alloc, case),

@@ -8,7 +8,10 @@ pub fn pieces_of(alloc: Global, all: &str, rows: &str) -> Result<Vec<u8>, Troubl
     let mut behind = Vec::new(alloc);
     for row in rows.lines() {
         match row.strip_prefix("-") {
-            Some(part) => behind = cut_at(alloc, &mut bytes, part.as_bytes())?,
+            Some(part) => {
+                bytes.extend_from_slice(behind.as_slice())?;
+                behind = cut_at(alloc, &mut bytes, part.as_bytes())?;
+            }
             None => push_piece(alloc, all, row, &mut bytes)?,
         }
     }
@@ -16,7 +19,7 @@ pub fn pieces_of(alloc: Global, all: &str, rows: &str) -> Result<Vec<u8>, Troubl
     Ok(bytes)
 }
 
-/// Appends one piece: `+TEXT`, `|TEXT` with LF, `xHEX`, `*COUNT HEX`, `=BASE`, or `~BASE` with LF.
+/// Appends one piece: `+TEXT`, `|TEXT` with LF, `xHEX`, `*COUNT HEX`, `%COUNT TEXT`, `=BASE`, or `~BASE` with LF.
 pub fn push_piece(
     alloc: Global,
     all: &str,
@@ -35,6 +38,7 @@ pub fn push_piece(
             to.extend_from_slice(bytes.as_slice())?;
         }
         '*' => push_repeated(alloc, text, to)?,
+        '%' => push_numbered(alloc, text, to)?,
         '=' => to.extend_from_slice(base_of(alloc, all, text)?.as_bytes())?,
         '~' => {
             to.extend_from_slice(base_of(alloc, all, text)?.as_bytes())?;
@@ -70,6 +74,21 @@ fn push_repeated(alloc: Global, text: &str, to: &mut Vec<u8>) -> Result<(), Trou
     let bytes = hex_bytes(alloc, digits)?;
     for _ in 0..number_of(count)? {
         to.extend_from_slice(bytes.as_slice())?;
+    }
+    Ok(())
+}
+
+/// Appends a text so many times with commas between, as `COUNT TEXT` says. Each `#` in it is the number of the
+/// time, from 0.
+fn push_numbered(alloc: Global, text: &str, to: &mut Vec<u8>) -> Result<(), Trouble> {
+    let (count, text) = first_word(text);
+    for number in 0..number_of(count)? {
+        if number > 0 {
+            to.extend_from_slice(b",")?;
+        }
+        let digits = format!(in alloc; "{number}")?;
+        let numbered = text.replace(alloc, "#", digits.as_str())?;
+        to.extend_from_slice(numbered.as_bytes())?;
     }
     Ok(())
 }

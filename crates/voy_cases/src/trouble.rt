@@ -5,6 +5,8 @@ use std::alloc::AllocError;
 pub enum Trouble {
     /// It is not written as a case is.
     Case(&'static str),
+    /// Two calls that have to agree do not.
+    Apart(&'static str),
     NoMemory,
 }
 

@@ -1,0 +1,109 @@
+use crate::case::Case;
+use crate::schemas::{push_table_name, schema_of};
+use crate::trouble::Trouble;
+use crate::values::push_rows;
+use std::alloc::Global;
+use voy_event::Event;
+use voy_schema::{Bytes, Copies, Row, Rows, Schema};
+use voy_txn::{Txn, read_txn, write_txn};
+
+/// The transaction whose payload the rows are, and their number of bytes.
+pub fn txn(alloc: Global, case: &Case) -> Result<String, Trouble> {
+    let schema = schema_of(alloc, case)?;
+    let payload = case.bytes(alloc)?;
+    match written_again(alloc, &schema, payload.as_slice())? {
+        Some(shown) => Ok(shown),
+        None => {
+            let shown = String::from_str(alloc, "no transaction")?;
+            Ok(shown)
+        }
+    }
+}
+
+/// The transaction in words, once a copy of it was written as the same payload.
+fn written_again(
+    alloc: Global,
+    schema: &Schema,
+    payload: &[u8],
+) -> Result<Option<String>, Trouble> {
+    let Some(txn) = read_txn(alloc, schema, payload)? else {
+        return Ok(None);
+    };
+    let copied = txn.copy()?;
+    let mut written = Bytes::new(alloc);
+    written.push(b'>')?;
+    write_txn(alloc, schema, &copied, &mut written)?;
+    if written.as_slice().strip_prefix(b">") != Some(payload) {
+        return Err(Trouble::Apart("the payload is written otherwise"));
+    }
+    let count = payload.len();
+    let mut shown = format!(in alloc; "{count} bytes, ")?;
+    push_txn(alloc, schema, &txn, &mut shown)?;
+    Ok(Some(shown))
+}
+
+fn push_txn(
+    alloc: Global,
+    schema: &Schema,
+    txn: &Txn,
+    to: &mut String,
+) -> Result<(), Trouble> {
+    match txn {
+        Txn::Load { tables } => push_load(alloc, schema, tables.as_slice(), to),
+        Txn::Batch {
+            table,
+            number,
+            rows,
+        } => {
+            let head = format!(in alloc; "batch {number} of")?;
+            to.push_str(head.as_str())?;
+            push_table_rows(alloc, schema, *table, rows.as_slice(), to)
+        }
+        Txn::Events { channel, items } => {
+            let head = format!(in alloc; "changes of channel {channel} with vsn")?;
+            to.push_str(head.as_str())?;
+            push_vsns(alloc, items.as_slice(), to)
+        }
+    }
+}
+
+fn push_load(
+    alloc: Global,
+    schema: &Schema,
+    tables: &[Rows],
+    to: &mut String,
+) -> Result<(), Trouble> {
+    to.push_str("load of")?;
+    let mut place = 0u32;
+    for rows in tables {
+        push_table_rows(alloc, schema, place, rows.as_slice(), to)?;
+        place = place.saturating_add(1);
+    }
+    Ok(())
+}
+
+/// Appends the table's name and its rows.
+fn push_table_rows(
+    alloc: Global,
+    schema: &Schema,
+    place: u32,
+    rows: &[Row],
+    to: &mut String,
+) -> Result<(), Trouble> {
+    to.push(' ')?;
+    push_table_name(schema, place, to)?;
+    to.push_str(" with ")?;
+    if rows.is_empty() {
+        to.push_str("no rows")?;
+    }
+    push_rows(alloc, rows, to)
+}
+
+fn push_vsns(alloc: Global, items: &[Event], to: &mut String) -> Result<(), Trouble> {
+    for item in items {
+        let vsn = item.vsn;
+        let next = format!(in alloc; " {vsn}")?;
+        to.push_str(next.as_str())?;
+    }
+    Ok(())
+}
