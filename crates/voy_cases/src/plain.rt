@@ -38,12 +38,23 @@ fn done(alloc: Global, plain: &mut Plain, change: Change) -> Result<String, Trou
 fn shown_misfit(alloc: Global, misfit: Option<Misfit>) -> Result<String, Trouble> {
     let shown = match misfit {
         None => String::from_str(alloc, "done")?,
-        Some(Misfit::KeyTaken) => String::from_str(alloc, "refused, key taken")?,
-        Some(Misfit::NoRow) => String::from_str(alloc, "refused, no row")?,
-        Some(Misfit::OtherRow) => String::from_str(alloc, "refused, other row")?,
-        Some(Misfit::Unique { key }) => format!(in alloc; "refused, unique key {key}")?,
+        Some(misfit) => {
+            let why = misfit_text(alloc, misfit)?;
+            format!(in alloc; "refused, {why}")?
+        }
     };
     Ok(shown)
+}
+
+/// Why a change does not fit.
+pub fn misfit_text(alloc: Global, misfit: Misfit) -> Result<String, Trouble> {
+    let text = match misfit {
+        Misfit::KeyTaken => String::from_str(alloc, "key taken")?,
+        Misfit::NoRow => String::from_str(alloc, "no row")?,
+        Misfit::OtherRow => String::from_str(alloc, "other row")?,
+        Misfit::Unique { key } => format!(in alloc; "unique key {key}")?,
+    };
+    Ok(text)
 }
 
 /// Appends the rows of each table.

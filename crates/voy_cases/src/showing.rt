@@ -1,6 +1,5 @@
 use crate::trouble::Trouble;
 use std::alloc::Global;
-use voy_schema::{Row, Value};
 
 /// How many equal characters in a row are shown as their number.
 const RUN: usize = 24;
@@ -88,30 +87,4 @@ pub fn quoted_bytes(alloc: Global, bytes: &[u8]) -> Result<String, Trouble> {
             Ok(shown)
         }
     }
-}
-
-/// The rows with `; ` between, each as its values with blanks between, and NULL as `NULL`.
-pub fn rows_shown(alloc: Global, rows: &[Row]) -> Result<String, Trouble> {
-    let mut shown = String::new(alloc);
-    for (at, row) in rows.iter().enumerate() {
-        if at > 0 {
-            shown.push_str("; ")?;
-        }
-        push_row(alloc, row, &mut shown)?;
-    }
-    Ok(shown)
-}
-
-/// Appends the row's values with blanks between.
-pub fn push_row(alloc: Global, row: &Row, to: &mut String) -> Result<(), Trouble> {
-    for (at, value) in row.as_slice().iter().enumerate() {
-        if at > 0 {
-            to.push_str(" ")?;
-        }
-        match value {
-            Value::Text(text) => to.push_str(quoted(alloc, text.as_str())?.as_str())?,
-            Value::Null => to.push_str("NULL")?,
-        }
-    }
-    Ok(())
 }

@@ -1,17 +1,19 @@
 ghost use Rattle.std.specs.Prelude.{◌≡◌, true, IfOk};
 
-use crate::case::{Case, base_of, first_word, number_of};
+use crate::case::{Case, first_word, number_of};
 use crate::disks::name_of;
 use crate::files::told;
 use crate::payloads::payload_of;
-use crate::showing::{push_row, quoted_bytes, rows_shown};
+use crate::plain::misfit_text;
+use crate::schemas::schema_of;
+use crate::showing::quoted_bytes;
 use crate::trouble::Trouble;
+use crate::values::{push_row, push_rows};
 use std::alloc::Global;
 use voy_disk::SureDisk;
 use voy_report::show_text;
 use voy_schema::{Bytes, Copies, Items, Key, Schema, Text};
 use voy_store::{JournalStore, MemStore, NotOpened, OpenError};
-use voy_tables::Misfit;
 use voy_txn::{Store, StoreError, is_next, read_txn};
 
 /// What the calls on a store in memory answer, one on each row: `store NAME SCHEMA`.
@@ -51,15 +53,6 @@ pub fn stored(alloc: Global, case: &Case) -> Result<String, Trouble> {
             };
             Ok(format!(in alloc; "{why}{kept}")?)
         }
-    }
-}
-
-/// The schema of the base that the case's first word names.
-fn schema_of(alloc: Global, case: &Case) -> Result<Schema, Trouble> {
-    let (name, _behind) = first_word(case.words);
-    match Schema::read(alloc, base_of(alloc, case.all, name)?.as_bytes()) {
-        Ok(schema) => Ok(schema),
-        Err(_refused) => Err(Trouble::Case("no schema")),
     }
 }
 
@@ -118,14 +111,13 @@ fn commit<S: Store>(
         return told(alloc, "not the next one");
     }
     let answer = answer_text(alloc, store.commit(&txn))?;
-    let rows = store.rows(0)?;
-    let rows = rows_shown(alloc, rows.as_slice())?;
     let counts = store.counts(0);
     let (many, batch_rows, changes) = (counts.rows, counts.batch_rows, counts.changes);
     let last = store.last(1);
-    let text = format!(in alloc;
-        "{answer}; rows {rows}; {many} rows, {batch_rows} of batches, {changes} changes, channel 1 at {last}"
+    let mut text = format!(in alloc;
+        "{answer}; {many} rows, {batch_rows} of batches, {changes} changes, channel 1 at {last}; "
     )?;
+    push_rows(alloc, store.rows(0)?.as_slice(), &mut text)?;
     Ok(text)
 }
 
@@ -138,16 +130,6 @@ fn answer_text(alloc: Global, answer: Result<(), StoreError>) -> Result<String, 
             let why = misfit_text(alloc, why)?;
             Ok(format!(in alloc; "item {item}: {why}")?)
         }
-    }
-}
-
-/// Why a change does not fit.
-pub fn misfit_text(alloc: Global, why: Misfit) -> Result<String, Trouble> {
-    match why {
-        Misfit::KeyTaken => told(alloc, "key taken"),
-        Misfit::NoRow => told(alloc, "no row"),
-        Misfit::OtherRow => told(alloc, "other row"),
-        Misfit::Unique { key } => Ok(format!(in alloc; "unique {key}")?),
     }
 }
 
