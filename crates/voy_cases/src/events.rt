@@ -104,11 +104,7 @@ fn shown_event(alloc: Global, schema: &Schema, event: &Event) -> Result<String, 
     Ok(shown)
 }
 
-fn shown_recorded(
-    alloc: Global,
-    schema: &Schema,
-    recorded: &Recorded,
-) -> Result<String, Trouble> {
+fn shown_recorded(alloc: Global, schema: &Schema, recorded: &Recorded) -> Result<String, Trouble> {
     let commit = recorded.spot.commit;
     let seq = recorded.spot.seq;
     let mut shown = format!(in alloc; "commit {commit}, place {seq}, ")?;

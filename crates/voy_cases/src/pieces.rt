@@ -20,12 +20,7 @@ pub fn pieces_of(alloc: Global, all: &str, rows: &str) -> Result<Vec<u8>, Troubl
 }
 
 /// Appends one piece: `+TEXT`, `|TEXT` with LF, `xHEX`, `*COUNT HEX`, `%COUNT TEXT`, `=BASE`, or `~BASE` with LF.
-pub fn push_piece(
-    alloc: Global,
-    all: &str,
-    row: &str,
-    to: &mut Vec<u8>,
-) -> Result<(), Trouble> {
+pub fn push_piece(alloc: Global, all: &str, row: &str, to: &mut Vec<u8>) -> Result<(), Trouble> {
     let (sign, text) = sign_of(row);
     match sign {
         '+' => to.extend_from_slice(text.as_bytes())?,
@@ -71,8 +66,14 @@ pub fn hex_bytes(alloc: Global, text: &str) -> Result<Vec<u8>, Trouble> {
 /// Appends bytes so many times, as `COUNT HEX` says.
 fn push_repeated(alloc: Global, text: &str, to: &mut Vec<u8>) -> Result<(), Trouble> {
     let (count, digits) = first_word(text);
+    let count = number_of(count)?;
     let bytes = hex_bytes(alloc, digits)?;
-    for _ in 0..number_of(count)? {
+    if let [byte] = bytes.as_slice() {
+        let run = vec![in alloc; *byte; count as usize]?;
+        to.extend_from_slice(run.as_slice())?;
+        return Ok(());
+    }
+    for _ in 0..count {
         to.extend_from_slice(bytes.as_slice())?;
     }
     Ok(())

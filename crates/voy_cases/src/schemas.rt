@@ -230,12 +230,7 @@ pub fn order(alloc: Global, case: &Case) -> Result<String, Trouble> {
     Ok(shown)
 }
 
-fn push_order(
-    are_tuples: bool,
-    row: &Row,
-    others: &[Row],
-    to: &mut String,
-) -> Result<(), Trouble> {
+fn push_order(are_tuples: bool, row: &Row, others: &[Row], to: &mut String) -> Result<(), Trouble> {
     for other in others {
         let order = if are_tuples {
             Tuple::new(row.copy()?).cmp(&Tuple::new(other.copy()?))

@@ -42,12 +42,7 @@ fn written_again(
     Ok(Some(shown))
 }
 
-fn push_txn(
-    alloc: Global,
-    schema: &Schema,
-    txn: &Txn,
-    to: &mut String,
-) -> Result<(), Trouble> {
+fn push_txn(alloc: Global, schema: &Schema, txn: &Txn, to: &mut String) -> Result<(), Trouble> {
     match txn {
         Txn::Load { tables } => push_load(alloc, schema, tables.as_slice(), to),
         Txn::Batch {
