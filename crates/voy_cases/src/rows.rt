@@ -134,9 +134,13 @@ pub fn made(alloc: Global, case: &Case) -> Result<String, Trouble> {
     for row in rows.as_slice() {
         write_row(alloc, row, &mut text)?;
     }
-    let answer = match read_rows(alloc, first_table(&schema)?, text.as_slice()) {
-        Ok(back) if back.same(&rows) => "the same rows",
-        _ => "other rows",
+    let Ok(back) = read_rows(alloc, first_table(&schema)?, text.as_slice()) else {
+        return Err(Trouble::Apart("made rows do not read"));
+    };
+    let answer = if back.same(&rows) {
+        "the same rows"
+    } else {
+        "other rows"
     };
     let answer = String::from_str(alloc, answer)?;
     Ok(answer)
