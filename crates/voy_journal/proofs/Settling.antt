@@ -1,7 +1,8 @@
 -- What the making and the settling of a journal's file leave.
 use Rattle.std.proofs.Common.{◌≡◌, ◌≤◌, ◌⊎◌, inl, inr, ℕ, List, [], ◌∷◌, Option, Some, None, Result, Ok, Err, length, refl, sym, ap, ◌∙◌, arith}
 use Rattle.std.proofs.lemmas.Option.{none-some}
-use Rattle.voy_disk.specs.Calls.{Change, Changes, Created, DoneOrNot, Leaves, SameOutside, Synced, or_empty}
+use Rattle.std.specs.Prelude.{OnOk}
+use Rattle.voy_disk.specs.Calls.{Change, Changes, Created, DoneOrNot, Leaves, SameOutside, SyncFailed, Synced, or_empty}
 use Rattle.voy_disk.specs.File.{File, settled}
 use Rattle.voy_disk.specs.FileLaws.{one_image}
 use Rattle.voy_disk.specs.Files.{Files, IfTold, bytes_now}
@@ -46,11 +47,13 @@ bytes_of : (found : Option File) → (or_empty found).now ≡ bytes_now found
 bytes_of None = refl
 bytes_of (Some file) = refl
 
--- a creation and a sync that answered Ok, and a call that changed nothing
-pub settles : (name : List ℕ) (a b c d : Option Files) → Change (Created name) a b → Change (Changes Synced name) b c → d ≡ c → Change (Settles name) a d
-settles name a b c d created synced same = rw same (change_on created synced (λ x y z made sync.
+-- a creation that answered Ok, and then a sync
+pub settles : {T : Type 0} (result : Result T DiskError) (name : List ℕ) (a b c : Option Files) → Change (Created name) a b
+    → Leaves result (Changes Synced name) (Changes SyncFailed name) b c → OnOk result (Change (Settles name) a c)
+settles (Err error) name a b c created synced = tt
+settles (Ok value) name a b c created synced = change_on created synced (λ x y z made sync.
     let old : sync.before ≡ or_empty (x name) = file_same (sym sync.was ∙ made.is) in
-    sync.is ∙ ap Some (sync.step ∙ ap (λ (file : File). settled file.now) old ∙ ap settled (bytes_of (x name)))))
+    sync.is ∙ ap Some (sync.step ∙ ap (λ (file : File). settled file.now) old ∙ ap settled (bytes_of (x name))))
 
 -- the file is safe, and has so many bytes
 pub record IsSettledTo (name : List ℕ) (end : ℕ) (files : Files) : Type 0 where

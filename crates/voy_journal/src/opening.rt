@@ -90,8 +90,19 @@ fn settle<D: Disk>(disk: &mut D, name: &Name) -> Result<u64, DiskError>
     ensures lender { D.lender disk.new ≡ D.lender disk.old }
     ensures cause { HasCause DiskError.Failed (D.faults disk.old) (D.faults disk.new) result }
 {
-    disk.create(name)?;
-    disk.sync(name)?;
+    make_safe(disk, name)?;
     let end = disk.len(name)?;
     Ok(end.unwrap_or(0))
+}
+
+// Makes the file where it is absent, and all its bytes safe.
+fn make_safe<D: Disk>(disk: &mut D, name: &Name) -> Result<(), DiskError>
+    ensures settles { OnOk result (Change (Settles name.now) (D.files disk.old) (D.files disk.new)) }
+    ensures images { Follows (KeepsPayloads name.now) (ImagesOf (D.files disk.old)) (ImagesOf (D.files disk.new)) }
+    ensures others { Change (KeepsOtherFiles name.now) (D.files disk.old) (D.files disk.new) }
+    ensures lender { D.lender disk.new ≡ D.lender disk.old }
+    ensures cause { HasCause DiskError.Failed (D.faults disk.old) (D.faults disk.new) result }
+{
+    disk.create(name)?;
+    disk.sync(name)
 }
