@@ -174,17 +174,21 @@ fn faults<D: Tried>(alloc: Global, disk: &mut D) -> Result<String, Fail> {
     Ok(format!(in alloc; "{count}")?)
 }
 
+/// The names in brackets, with `;` behind each.
 fn list<D: Disk>(alloc: Global, disk: &mut D) -> Result<String, Fail> {
-    let mut text = String::new(alloc);
     match disk.list() {
-        Ok(names) => {
-            for name in names.as_slice() {
-                text.push_str(name.as_str())?;
-                text.push_str(";")?;
-            }
-        }
-        Err(error) => text.push_str(text_of(Err(error)))?,
+        Ok(names) => bracketed(alloc, names.as_slice()),
+        Err(error) => Ok(String::from_str(alloc, text_of(Err(error)))?),
     }
+}
+
+fn bracketed(alloc: Global, names: &[Name]) -> Result<String, Fail> {
+    let mut text = String::from_str(alloc, "[")?;
+    for name in names {
+        text.push_str(name.as_str())?;
+        text.push_str(";")?;
+    }
+    text.push_str("]")?;
     Ok(text)
 }
 
@@ -208,7 +212,7 @@ fn read<D: Disk>(alloc: Global, disk: &mut D, name: &str, at: &str) -> Result<St
     }
 }
 
-fn quoted(alloc: Global, bytes: &[u8]) -> Result<String, Fail> {
+pub(crate) fn quoted(alloc: Global, bytes: &[u8]) -> Result<String, Fail> {
     let text = std::str::from_utf8(bytes)?;
     Ok(format!(in alloc; "'{text}'")?)
 }

@@ -80,21 +80,33 @@ fn stopped_at(alloc: Global, call: u64, choice: u64, appends: u8) -> Result<Left
 
 /// Three appends, of which this call stops, an outage, an opening and one more append.
 fn try_outage(rt: &(impl Abort + AllocGlobal), call: u64, choice: u64) -> Result<(), Fail> {
-    let alloc = rt.alloc();
-    let mut left = stopped_at(alloc, call, choice, 3)?;
-    let mut opened = Journal::open(alloc, &mut left.disk, name_of(alloc, NAME)?)?;
-    let mut old = opened.payloads.into_vec();
-    assert!(rt; old.len() <= 3, "stopped at call {call}, outage {choice}");
+    let mut left = stopped_at(rt.alloc(), call, choice, 3)?;
+    let stood = append_new(rt.alloc(), &mut left.disk)?;
+    let stand = payloads_on(rt.alloc(), &mut left.disk)?;
     assert!(rt;
-        old.len() >= left.acknowledged as usize,
+        goes_on(left.acknowledged, &stood, stand.as_slice()),
         "stopped at call {call}, outage {choice}"
     );
-    assert!(rt; are_pairs(&old), "stopped at call {call}, outage {choice}");
-    opened.journal.append(&mut left.disk, b"new")?;
-    old.push(Vec::from_slice(alloc, b"new")?)?;
-    let payloads = payloads_on(alloc, &mut left.disk)?.into_vec();
-    assert!(rt; payloads == old, "stopped at call {call}, outage {choice}");
     Ok(())
+}
+
+/// Appends `new`, and gives the payloads that stood before.
+fn append_new(alloc: Global, disk: &mut MemDisk) -> Result<Vec<Vec<u8>>, Fail> {
+    let mut opened = Journal::open(alloc, disk, name_of(alloc, NAME)?)?;
+    opened.journal.append(disk, b"new")?;
+    Ok(opened.payloads.into_vec())
+}
+
+/// At most three pairs stood and at least those that were acknowledged, and `new` behind them now.
+fn goes_on(acknowledged: u8, stood: &[Vec<u8>], stand: &[Vec<u8>]) -> bool {
+    let Some((last, others)) = stand.split_last() else {
+        return false;
+    };
+    stood.len() >= acknowledged as usize
+        && stood.len() <= 3
+        && are_pairs(stood)
+        && others == stood
+        && last.as_slice() == b"new".as_slice()
 }
 
 fn try_fault_at_opening(rt: &(impl Abort + AllocGlobal), call: u64) -> Result<(), Fail> {
@@ -125,16 +137,13 @@ fn try_stop(
     choice: u64,
     most: usize,
 ) -> Result<(), Fail> {
-    let alloc = rt.alloc();
-    let mut left = stopped_at(alloc, call, choice, 1)?;
-    assert_eq!(rt; left.acknowledged, 0);
-    let payloads = payloads_on(alloc, &mut left.disk)?;
-    let found = payloads.as_slice();
+    let mut left = stopped_at(rt.alloc(), call, choice, 1)?;
+    let stand = payloads_on(rt.alloc(), &mut left.disk)?;
+    let found = stand.as_slice();
     assert!(rt;
-        found.len() <= most,
+        left.acknowledged == 0 && found.len() <= most && are_pairs(found),
         "stopped at call {call}, outage {choice}"
     );
-    assert!(rt; are_pairs(found), "stopped at call {call}, outage {choice}");
     Ok(())
 }
 
@@ -143,20 +152,26 @@ fn an_append_is_an_open_gate_a_length_the_payload_and_a_closed_gate(
     rt: HostRuntime,
 ) -> Result<(), Fail> {
     let alloc = rt.alloc();
-    let name = name_of(alloc, NAME)?;
     let mut disk = stopping_disk(alloc, 0, 0);
     let mut opened = Journal::open(alloc, &mut disk, name_of(alloc, NAME)?)?;
-    assert!(rt; opened.payloads.as_slice().is_empty());
-    assert_eq!(rt; disk.calls(), OPENING_CALLS);
-    assert_eq!(rt; disk.file(&name), Some([0].as_slice()));
+    let made = told(alloc, &disk)?;
     opened.journal.append(&mut disk, &[1, 1])?;
-    assert!(rt; opened.journal.live());
-    assert_eq!(rt; disk.calls(), OPENING_CALLS + APPEND_CALLS);
-    assert_eq!(rt; disk.file(&name), Some([1, 0, 0, 0, 2, 1, 1, 0].as_slice()));
-    let payloads = payloads_on(alloc, &mut disk)?.into_vec();
-    assert_eq!(rt; payloads.len(), 1);
-    assert!(rt; are_pairs(&payloads));
+    let appended = told(alloc, &disk)?;
+    let is_live = opened.journal.live();
+    let stood = opened.payloads.as_slice().len();
+    let stand = payloads_on(alloc, &mut disk)?;
+    assert_eq!(rt; made.as_str(), "5 calls, [0]");
+    assert_eq!(rt; appended.as_str(), "9 calls, [1, 0, 0, 0, 2, 1, 1, 0]");
+    assert!(rt; is_live && stood == 0);
+    assert!(rt; stand.as_slice().len() == 1 && are_pairs(stand.as_slice()));
     Ok(())
+}
+
+/// How many calls the disk had, and the bytes of the journal.
+fn told(alloc: Global, disk: &MemDisk) -> Result<String, Fail> {
+    let name = name_of(alloc, NAME)?;
+    let (calls, bytes) = (disk.calls(), disk.file(&name).unwrap_or(&[]));
+    Ok(format!(in alloc; "{calls} calls, {bytes:?}")?)
 }
 
 #[test]

@@ -63,7 +63,7 @@ create meta.journal = ok
 create segment.2.ndjson = ok
 create Z = ok
 create _ = ok
-list = Z;_;meta.journal;segment.10.ndjson;segment.2.ndjson;
+list = [Z;_;meta.journal;segment.10.ndjson;segment.2.ndjson;]
 ";
 
 #[test]

@@ -1,17 +1,21 @@
-use crate::disk_calls::{answer, answered, call_of, push_line};
+//! Calls of a disk over a real folder, as lines of text (`disk_calls`). Between them stand calls of the host:
+//! `make` makes the folder, `put TEXT NAME` writes a file, `folder NAME` and `link NAME` make a folder and a link
+//! to the file `absent`, `remove NAME` removes a file, `bytes NAME` shows a file, and `kind` says what the folder is.
+//! Of a host that counts and fails, `syncs` is how often it was asked for a sync, and from `fail` on its calls fail.
+
+use crate::disk_calls::{answer, call_of, push_line, quoted};
 use crate::flaky_host::{FlakyHost, Notes};
-use std::alloc::Global;
 use std::fs;
 use std::os::unix::fs::symlink;
 use std::rt::Files;
 use std::test::Fail;
 use voy_disk::HostDisk;
 
-/// Calls of a folder that is absent, which is made.
-const ABSENT: &str = "len changes.ndjson = none\n";
-
-/// Calls of a folder with a file of ten bytes and a folder.
 const READS: &str = "\
+len changes.ndjson = none
+kind = folder
+put 0123456789 changes.ndjson = ok
+folder folder = ok
 len changes.ndjson = 10
 len absent = none
 len folder = failed
@@ -27,16 +31,8 @@ faults = 2
 
 #[test]
 fn a_real_folder_is_made_and_read(rt: HostRuntime) -> Result<(), Fail> {
-    let _ = fs::remove_dir_all(&rt, "voy_disk_reads");
-    let mut disk = HostDisk::new(rt, rt.alloc(), "voy_disk_reads")?;
-    let found = answered(rt.alloc(), &mut disk, ABSENT)?;
-    assert_eq!(rt; found.as_str(), ABSENT);
-    assert!(rt; fs::metadata(&rt, "voy_disk_reads")?.is_dir());
-    fs::write(&rt, "voy_disk_reads/changes.ndjson", "0123456789")?;
-    fs::create_dir(&rt, "voy_disk_reads/folder")?;
-    let found = answered(rt.alloc(), &mut disk, READS)?;
+    let found = over_folder(rt, "voy_disk_reads", "voy_disk_reads", READS)?;
     assert_eq!(rt; found.as_str(), READS);
-    fs::remove_dir_all(&rt, "voy_disk_reads")?;
     Ok(())
 }
 
@@ -46,123 +42,82 @@ write file.log 0 0123456789 = ok
 write file.log 2 ab = ok
 write file.log 9 XYZ = ok
 create file.log = ok
+bytes file.log = '01ab45678XYZ'
 ";
 
 #[test]
 fn a_real_file_is_made_and_written(rt: HostRuntime) -> Result<(), Fail> {
-    let _ = fs::remove_dir_all(&rt, "voy_disk_writes");
-    let mut disk = HostDisk::new(rt, rt.alloc(), "voy_disk_writes")?;
-    let found = answered(rt.alloc(), &mut disk, WRITES)?;
+    let found = over_folder(rt, "voy_disk_writes", "voy_disk_writes", WRITES)?;
     assert_eq!(rt; found.as_str(), WRITES);
-    let bytes = fs::read(&rt, "voy_disk_writes/file.log")?;
-    assert_eq!(rt; bytes.as_slice(), b"01ab45678XYZ".as_slice());
-    fs::remove_dir_all(&rt, "voy_disk_writes")?;
     Ok(())
 }
 
 const CUTS: &str = "\
+make = ok
+put 0123456789 old.log = ok
 cut old.log 3 = ok
 sync old.log = ok
 rename old.log new.log = ok
+bytes new.log = '012'
 len old.log = none
 ";
 
 #[test]
 fn a_real_file_is_cut_and_renamed(rt: HostRuntime) -> Result<(), Fail> {
-    let _ = fs::remove_dir_all(&rt, "voy_disk_cuts");
-    fs::create_dir(&rt, "voy_disk_cuts")?;
-    fs::write(&rt, "voy_disk_cuts/old.log", "0123456789")?;
-    let mut disk = HostDisk::new(rt, rt.alloc(), "voy_disk_cuts")?;
-    let found = answered(rt.alloc(), &mut disk, CUTS)?;
+    let found = over_folder(rt, "voy_disk_cuts", "voy_disk_cuts", CUTS)?;
     assert_eq!(rt; found.as_str(), CUTS);
-    let bytes = fs::read(&rt, "voy_disk_cuts/new.log")?;
-    assert_eq!(rt; bytes.as_slice(), b"012".as_slice());
-    fs::remove_dir_all(&rt, "voy_disk_cuts")?;
     Ok(())
 }
 
 const LISTS: &str = "\
-list = B;a;b.log;
+list = []
+put x b.log = ok
+put x a = ok
+put x B = ok
+put x no-name = ok
+put x kein näme = ok
+folder folder = ok
+link dangling = ok
+list = [B;a;b.log;]
 faults = 0
 ";
 
 #[test]
 fn a_list_has_plain_files_with_names_in_byte_order(rt: HostRuntime) -> Result<(), Fail> {
-    let _ = fs::remove_dir_all(&rt, "voy_disk_lists");
-    let mut disk = HostDisk::new(rt, rt.alloc(), "voy_disk_lists")?;
-    let found = answer(rt.alloc(), &mut disk, "list")?;
-    assert_eq!(rt; found.as_str(), "");
-    for path in [
-        "voy_disk_lists/b.log",
-        "voy_disk_lists/a",
-        "voy_disk_lists/B",
-        "voy_disk_lists/no-name",
-        "voy_disk_lists/kein näme",
-    ] {
-        fs::write(&rt, path, "x")?;
-    }
-    fs::create_dir(&rt, "voy_disk_lists/folder")?;
-    symlink(&rt, "absent", "voy_disk_lists/dangling")?;
-    let found = answered(rt.alloc(), &mut disk, LISTS)?;
+    let found = over_folder(rt, "voy_disk_lists", "voy_disk_lists", LISTS)?;
     assert_eq!(rt; found.as_str(), LISTS);
-    fs::remove_dir_all(&rt, "voy_disk_lists")?;
     Ok(())
 }
 
-/// Calls of a folder in a folder that is absent.
-const NO_FOLDER: &str = "\
+/// Calls of a folder in a folder that is absent, then of one at whose place a file stands, and once that is gone.
+const INNER: &str = "\
 len changes.ndjson = failed
-faults = 1
-";
-
-/// Calls of a folder at whose place a file stands.
-const A_FILE: &str = "\
+make = ok
+put x inner = ok
 read changes.ndjson 0 = failed
 list = failed
 create changes.ndjson = failed
 faults = 4
-";
-
-/// And once the file is gone.
-const AT_LAST: &str = "\
+remove inner = ok
 create changes.ndjson = ok
 faults = 4
 ";
 
 #[test]
 fn a_folder_that_cannot_be_made_is_a_fault_until_it_can(rt: HostRuntime) -> Result<(), Fail> {
-    let _ = fs::remove_dir_all(&rt, "voy_disk_outer");
-    let mut disk = HostDisk::new(rt, rt.alloc(), "voy_disk_outer/inner")?;
-    let found = answered(rt.alloc(), &mut disk, NO_FOLDER)?;
-    assert_eq!(rt; found.as_str(), NO_FOLDER);
-    fs::create_dir(&rt, "voy_disk_outer")?;
-    fs::write(&rt, "voy_disk_outer/inner", "a file")?;
-    let found = answered(rt.alloc(), &mut disk, A_FILE)?;
-    assert_eq!(rt; found.as_str(), A_FILE);
-    fs::remove_file(&rt, "voy_disk_outer/inner")?;
-    let found = answered(rt.alloc(), &mut disk, AT_LAST)?;
-    assert_eq!(rt; found.as_str(), AT_LAST);
-    fs::remove_dir_all(&rt, "voy_disk_outer")?;
+    let found = over_folder(rt, "voy_disk_outer", "voy_disk_outer/inner", INNER)?;
+    assert_eq!(rt; found.as_str(), INNER);
     Ok(())
 }
 
-/// A folder with two files of ten bytes, a folder and a link to nothing.
-fn make_folder(rt: HostRuntime, folder: &str) -> Result<(), Fail> {
-    let _ = fs::remove_dir_all(&rt, folder);
-    fs::create_dir(&rt, folder)?;
-    let path = format!(in rt.alloc(); "{folder}/first")?;
-    fs::write(&rt, path.as_str(), "0123456789")?;
-    let path = format!(in rt.alloc(); "{folder}/second")?;
-    fs::write(&rt, path.as_str(), "0123456789")?;
-    let path = format!(in rt.alloc(); "{folder}/folder")?;
-    fs::create_dir(&rt, path.as_str())?;
-    let path = format!(in rt.alloc(); "{folder}/link")?;
-    symlink(&rt, "absent", path.as_str())?;
-    Ok(())
-}
-
-/// Calls that a real folder refuses, and how many faults there were after each.
+/// Calls that a real folder refuses, and how many faults there were after each. It has two files of ten bytes, a
+/// folder and a link to nothing.
 const REFUSED: &str = "\
+make = ok
+put 0123456789 first = ok
+put 0123456789 second = ok
+folder folder = ok
+link link = ok
 len folder = failed
 faults = 1
 read folder 0 = failed
@@ -197,72 +152,59 @@ rename first first = failed
 faults = 16
 rename first link = failed
 faults = 17
+bytes first = '0123456789'
 ";
 
 #[test]
 fn each_refusal_of_a_real_folder_counts_and_changes_nothing(rt: HostRuntime) -> Result<(), Fail> {
-    make_folder(rt, "voy_disk_refuses")?;
-    let mut disk = HostDisk::new(rt, rt.alloc(), "voy_disk_refuses")?;
-    let found = answered(rt.alloc(), &mut disk, REFUSED)?;
+    let found = over_folder(rt, "voy_disk_refuses", "voy_disk_refuses", REFUSED)?;
     assert_eq!(rt; found.as_str(), REFUSED);
-    let bytes = fs::read(&rt, "voy_disk_refuses/first")?;
-    assert_eq!(rt; bytes.as_slice(), b"0123456789".as_slice());
-    fs::remove_dir_all(&rt, "voy_disk_refuses")?;
     Ok(())
 }
 
 /// Calls, and how often the host was asked for a sync after each: the first name makes the folder's own
 /// name safe too.
 const SYNCED: &str = "\
-len first = 0 syncs
-create first = 2 syncs
-create absent = 3 syncs
-write first 10 x = 3 syncs
-cut first 11 = 3 syncs
-sync first = 4 syncs
-read first 0 = 4 syncs
-rename first free = 5 syncs
-list = 5 syncs
+make = ok
+put 0123456789 first = ok
+put 0123456789 second = ok
+folder folder = ok
+len first = 10
+syncs = 0
+create first = ok
+syncs = 2
+create absent = ok
+syncs = 3
+write first 10 x = ok
+syncs = 3
+cut first 11 = ok
+syncs = 3
+sync first = ok
+syncs = 4
+read first 0 = '0123'
+syncs = 4
+rename first free = ok
+syncs = 5
+list = [absent;free;second;]
+syncs = 5
 ";
 
 #[test]
 fn each_sync_of_a_real_folder_is_asked_of_the_host(rt: HostRuntime) -> Result<(), Fail> {
-    make_folder(rt, "voy_disk_syncs")?;
-    let notes = Notes::new();
-    let host = FlakyHost {
-        host: rt,
-        notes: &notes,
-    };
-    let mut disk = HostDisk::new(host, rt.alloc(), "voy_disk_syncs")?;
-    let found = with_syncs(rt.alloc(), &mut disk, &notes, SYNCED)?;
+    let found = over_flaky_folder(rt, "voy_disk_syncs", SYNCED)?;
     assert_eq!(rt; found.as_str(), SYNCED);
-    fs::remove_dir_all(&rt, "voy_disk_syncs")?;
     Ok(())
-}
-
-/// The lines with how often the host was asked for a sync after each call, or with what failed.
-fn with_syncs<R: Files + Drop>(
-    alloc: Global,
-    disk: &mut HostDisk<R>,
-    notes: &Notes,
-    lines: &str,
-) -> Result<String, Fail> {
-    let mut all = String::new(alloc);
-    for line in lines.lines() {
-        let call = call_of(line);
-        let answer = answer(alloc, disk, call)?;
-        if answer.as_str() == "failed" {
-            push_line(alloc, &mut all, call, "failed")?;
-        } else {
-            let syncs = format!(in alloc; "{} syncs", notes.syncs.get())?;
-            push_line(alloc, &mut all, call, syncs.as_str())?;
-        }
-    }
-    Ok(all)
 }
 
 /// Calls while the host fails, and how many faults there were after each.
 const FAILING: &str = "\
+make = ok
+put 0123456789 first = ok
+put 0123456789 second = ok
+folder folder = ok
+link link = ok
+create first = ok
+fail = ok
 list = failed
 faults = 1
 read first 0 = failed
@@ -279,23 +221,105 @@ sync first = failed
 faults = 7
 rename first free = failed
 faults = 8
+bytes free = '0123456789'
 ";
 
 #[test]
 fn each_failure_of_the_host_is_a_fault(rt: HostRuntime) -> Result<(), Fail> {
-    make_folder(rt, "voy_disk_fails")?;
+    let found = over_flaky_folder(rt, "voy_disk_fails", FAILING)?;
+    assert_eq!(rt; found.as_str(), FAILING);
+    Ok(())
+}
+
+/// The lines with the answers of a disk over the folder `at`, which is this folder or one in it.
+fn over_folder(rt: HostRuntime, folder: &str, at: &str, lines: &str) -> Result<String, Fail> {
+    let _ = fs::remove_dir_all(&rt, folder);
+    let mut disk = HostDisk::new(rt, rt.alloc(), at)?;
+    let mut found = String::new(rt.alloc());
+    for line in lines.lines() {
+        let call = call_of(line);
+        let answer = answer_in(rt, folder, &mut disk, call)?;
+        push_line(rt.alloc(), &mut found, call, answer.as_str())?;
+    }
+    fs::remove_dir_all(&rt, folder)?;
+    Ok(found)
+}
+
+/// The same over a host that counts its syncs and fails.
+fn over_flaky_folder(rt: HostRuntime, folder: &str, lines: &str) -> Result<String, Fail> {
+    let _ = fs::remove_dir_all(&rt, folder);
     let notes = Notes::new();
     let host = FlakyHost {
         host: rt,
         notes: &notes,
     };
-    let mut disk = HostDisk::new(host, rt.alloc(), "voy_disk_fails")?;
-    let found = answer(rt.alloc(), &mut disk, "create first")?;
-    assert_eq!(rt; found.as_str(), "ok");
-    notes.fails.set(true);
-    let found = answered(rt.alloc(), &mut disk, FAILING)?;
-    assert_eq!(rt; found.as_str(), FAILING);
-    assert!(rt; fs::metadata(&rt, "voy_disk_fails/free")?.is_file());
-    fs::remove_dir_all(&rt, "voy_disk_fails")?;
+    let mut disk = HostDisk::new(host, rt.alloc(), folder)?;
+    let mut found = String::new(rt.alloc());
+    for line in lines.lines() {
+        let call = call_of(line);
+        let answer = match noted(rt, &notes, call)? {
+            Some(answer) => answer,
+            None => answer_in(rt, folder, &mut disk, call)?,
+        };
+        push_line(rt.alloc(), &mut found, call, answer.as_str())?;
+    }
+    fs::remove_dir_all(&rt, folder)?;
+    Ok(found)
+}
+
+/// The answer to `syncs` or `fail`.
+fn noted(rt: HostRuntime, notes: &Notes, call: &str) -> Result<Option<String>, Fail> {
+    match call {
+        "syncs" => Ok(Some(format!(in rt.alloc(); "{}", notes.syncs.get())?)),
+        "fail" => {
+            notes.fails.set(true);
+            Ok(Some(String::from_str(rt.alloc(), "ok")?))
+        }
+        _ => Ok(None),
+    }
+}
+
+/// What the host, or else the disk, answers to the call.
+fn answer_in<R: Files + Drop>(
+    rt: HostRuntime,
+    folder: &str,
+    disk: &mut HostDisk<R>,
+    call: &str,
+) -> Result<String, Fail> {
+    let (kind, rest) = call.split_once(' ').unwrap_or((call, ""));
+    match kind {
+        "kind" => return kind_of(rt, folder),
+        "bytes" => return bytes_of(rt, folder, rest),
+        "make" => fs::create_dir(&rt, folder)?,
+        "folder" => fs::create_dir(&rt, path(rt, folder, rest)?.as_str())?,
+        "link" => symlink(&rt, "absent", path(rt, folder, rest)?.as_str())?,
+        "remove" => fs::remove_file(&rt, path(rt, folder, rest)?.as_str())?,
+        "put" => put(rt, folder, rest)?,
+        _ => return answer(rt.alloc(), disk, call),
+    }
+    Ok(String::from_str(rt.alloc(), "ok")?)
+}
+
+fn put(rt: HostRuntime, folder: &str, words: &str) -> Result<(), Fail> {
+    let (text, name) = words.split_once(' ').ok_or("no name")?;
+    fs::write(&rt, path(rt, folder, name)?.as_str(), text)?;
     Ok(())
+}
+
+fn bytes_of(rt: HostRuntime, folder: &str, name: &str) -> Result<String, Fail> {
+    let bytes = fs::read(&rt, path(rt, folder, name)?.as_str())?;
+    quoted(rt.alloc(), bytes.as_slice())
+}
+
+fn kind_of(rt: HostRuntime, folder: &str) -> Result<String, Fail> {
+    let kind = if fs::metadata(&rt, folder)?.is_dir() {
+        "folder"
+    } else {
+        "no folder"
+    };
+    Ok(String::from_str(rt.alloc(), kind)?)
+}
+
+fn path(rt: HostRuntime, folder: &str, name: &str) -> Result<String, Fail> {
+    Ok(format!(in rt.alloc(); "{folder}/{name}")?)
 }

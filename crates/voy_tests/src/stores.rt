@@ -40,13 +40,15 @@ fn a_commit_is_one_payload_of_the_journal(rt: HostRuntime) -> Result<(), Fail> {
     let schema = users(alloc)?;
     let mut store = opened(alloc, &schema, SureDisk::new(alloc))?;
     let answer = commit(alloc, &schema, &mut store, BATCH)?;
-    assert_eq!(rt; told(alloc, &store, answer)?.as_str(), AFTER[1]);
+    let committed = told(alloc, &store, answer)?;
     let disk = store.into_disk();
-    assert_eq!(rt; disk.file(&name_of(alloc, NAME)?), Some(BATCH_JOURNAL));
+    let written = journal_of(alloc, &disk)?;
     let again = opened(alloc, &schema, disk)?;
-    assert!(rt; again.has_batch(0, 1));
-    assert!(rt; again.live());
-    assert_eq!(rt; told(alloc, &again, Ok(()))?.as_str(), AFTER[1]);
+    let stands = told(alloc, &again, Ok(()))?;
+    assert_eq!(rt; committed.as_str(), AFTER[1]);
+    assert_eq!(rt; written.as_slice(), BATCH_JOURNAL);
+    assert_eq!(rt; stands.as_str(), AFTER[1]);
+    assert!(rt; again.live() && again.has_batch(0, 1));
     Ok(())
 }
 
@@ -57,16 +59,19 @@ fn a_refused_commit_leaves_the_journal(rt: HostRuntime) -> Result<(), Fail> {
     let mut store = opened(alloc, &schema, disk_with(alloc, NAME, BATCH_JOURNAL)?)?;
     let payload = events(alloc, 1, "c 1 3 c,c 2 1 d")?;
     let answer = commit(alloc, &schema, &mut store, payload.as_slice())?;
-    assert_eq!(rt;
-        told(alloc, &store, answer)?.as_str(),
-        "1 key taken 1|a;2|b; 2/2/0 0"
-    );
-    assert!(rt; store.live());
-    assert_eq!(rt;
-        store.into_disk().file(&name_of(alloc, NAME)?),
-        Some(BATCH_JOURNAL)
-    );
+    let refused = told(alloc, &store, answer)?;
+    let is_live = store.live();
+    let written = journal_of(alloc, &store.into_disk())?;
+    assert_eq!(rt; refused.as_str(), "1 key taken 1|a;2|b; 2/2/0 0");
+    assert!(rt; is_live);
+    assert_eq!(rt; written.as_slice(), BATCH_JOURNAL);
     Ok(())
+}
+
+/// A copy of the bytes of the journal.
+fn journal_of(alloc: Global, disk: &SureDisk) -> Result<Vec<u8>, Fail> {
+    let name = name_of(alloc, NAME)?;
+    Ok(Vec::from_slice(alloc, disk.file(&name).unwrap_or(&[]))?)
 }
 
 #[test]
