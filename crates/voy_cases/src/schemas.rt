@@ -1,7 +1,7 @@
 use crate::case::{Case, first_word};
 use crate::showing::quoted;
 use crate::trouble::Trouble;
-use crate::values::{json_of, push_answer, row_of, rows_of, text_at, value_of};
+use crate::values::{push_answer, row_of, rows_of, text_at, value_of};
 use std::alloc::Global;
 use std::cmp::Ordering;
 use voy_schema::{
@@ -198,18 +198,22 @@ pub fn find(alloc: Global, case: &Case) -> Result<String, Trouble> {
 pub fn text(alloc: Global, case: &Case) -> Result<String, Trouble> {
     let mut shown = String::new(alloc);
     for line in case.rows.lines() {
-        let json = json_of(alloc, line)?;
-        let Some(text) = json.as_str() else {
-            return Err(Trouble::Case("no text"));
+        let answer = match value_of(alloc, line)? {
+            Value::Text(text) => kept(alloc, &text)?,
+            Value::Null => return Err(Trouble::Case("no text")),
         };
-        let kept = Text::from_str(alloc, text)?;
-        if kept.copy()?.as_str() != kept.as_str() {
-            return Err(Trouble::Apart("a copied text is another"));
-        }
-        let answer = quoted(alloc, kept.as_str())?;
         push_answer(&mut shown, line, answer.as_str())?;
     }
     Ok(shown)
+}
+
+/// The text, once a copy of it was found to be the same.
+fn kept(alloc: Global, text: &Text) -> Result<String, Trouble> {
+    let copied = text.copy()?;
+    if copied.as_str() != text.as_str() {
+        return Err(Trouble::Apart("a copied text is another"));
+    }
+    quoted(alloc, text.as_str())
 }
 
 /// How each of these rows compares with each of them, as rows or as tuples.

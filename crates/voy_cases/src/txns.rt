@@ -1,3 +1,5 @@
+ghost use Rattle.voy_txn.specs.LawfulTxn.{IsLawfulTxn};
+
 use crate::case::Case;
 use crate::schemas::{push_table_name, schema_of};
 use crate::trouble::Trouble;
@@ -29,17 +31,33 @@ fn written_again(
     let Some(txn) = read_txn(alloc, schema, payload)? else {
         return Ok(None);
     };
-    let copied = txn.copy()?;
-    let mut written = Bytes::new(alloc);
-    written.push(b'>')?;
-    write_txn(alloc, schema, &copied, &mut written)?;
-    if written.as_slice().strip_prefix(b">") != Some(payload) {
+    let written = payload_of_copy(alloc, schema, &txn)?;
+    if !stands_behind(payload, written.as_slice()) {
         return Err(Trouble::Apart("the payload is written otherwise"));
     }
     let count = payload.len();
     let mut shown = format!(in alloc; "{count} bytes, ")?;
     push_txn(alloc, schema, &txn, &mut shown)?;
     Ok(Some(shown))
+}
+
+/// The one byte `>` with the payload of a copy of the transaction behind it.
+fn payload_of_copy(alloc: Global, schema: &Schema, txn: &Txn) -> Result<Bytes, Trouble>
+    requires { IsLawfulTxn schema.now.tables txn.now }
+{
+    let copied = txn.copy()?;
+    let mut written = Bytes::new(alloc);
+    written.push(b'>')?;
+    write_txn(alloc, schema, &copied, &mut written)?;
+    Ok(written)
+}
+
+/// Whether these bytes are the one byte `>` and the payload.
+fn stands_behind(payload: &[u8], bytes: &[u8]) -> bool {
+    match bytes.strip_prefix(b">") {
+        Some(behind) => behind == payload,
+        None => false,
+    }
 }
 
 fn push_txn(alloc: Global, schema: &Schema, txn: &Txn, to: &mut String) -> Result<(), Trouble> {

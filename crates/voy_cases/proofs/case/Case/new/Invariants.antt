@@ -1,4 +1,3 @@
-use Rattle.std.proofs.Common.{◌×◌}
 use denote.Text.{Utf8}
 use denote.Shadow.{shadow}
 use Rattle.voy_cases.proofs.case.Case.new.Given as goal
