@@ -6,7 +6,7 @@ use voy_json::{ParseError, parse};
 use voy_schema::{Row, Rows, Text, Value};
 
 /// The JSON document that a case writes.
-pub fn json_of(alloc: Global, written: &str) -> Result<Json, Trouble> {
+fn json_of(alloc: Global, written: &str) -> Result<Json, Trouble> {
     match parse(alloc, written.as_bytes()) {
         Ok(json) => Ok(json),
         Err(ParseError::NotJson) => Err(Trouble::Case("no JSON")),
