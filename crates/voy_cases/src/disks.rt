@@ -71,7 +71,12 @@ fn call(alloc: Global, all: &str, disk: &mut MemDisk, row: &str) -> Result<Strin
         "list" => list(alloc, disk),
         "calls" => Ok(format!(in alloc; "{} calls", disk.calls())?),
         "dead" => told(alloc, if disk.dead() { "dead" } else { "alive" }),
-        "rename" => rename(alloc, disk, &name_of(alloc, text)?, &name_of(alloc, behind)?),
+        "rename" => rename(
+            alloc,
+            disk,
+            &name_of(alloc, text)?,
+            &name_of(alloc, behind)?,
+        ),
         _ => call_on(alloc, all, disk, &name_of(alloc, text)?, verb, behind),
     }
 }
@@ -187,12 +192,7 @@ fn sync(alloc: Global, disk: &mut MemDisk, name: &Name) -> Result<String, Troubl
     answer(alloc, done)
 }
 
-fn rename(
-    alloc: Global,
-    disk: &mut MemDisk,
-    from: &Name,
-    to: &Name,
-) -> Result<String, Trouble> {
+fn rename(alloc: Global, disk: &mut MemDisk, from: &Name, to: &Name) -> Result<String, Trouble> {
     let done = match (disk.file(from), disk.file(to)) {
         (Some(_), None) => disk.rename(from, to),
         _ => return Err(Trouble::Case("a renaming that no caller may ask for")),

@@ -45,7 +45,11 @@ pub fn stored(alloc: Global, case: &Case) -> Result<String, Trouble> {
         }
         Err(NotOpened { disk, why }) => {
             let is_kept = disk.file(&name) == Some(bytes.as_slice());
-            let kept = if is_kept { "" } else { ", and the file changed" };
+            let kept = if is_kept {
+                ""
+            } else {
+                ", and the file changed"
+            };
             let why = match why {
                 OpenError::Damaged { offset } => format!(in alloc; "damaged at {offset}")?,
                 OpenError::Fault => told(alloc, "fault")?,
