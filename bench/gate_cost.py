@@ -17,8 +17,8 @@ TICKS = os.sysconf("SC_CLK_TCK")
 KINDS = ("proof", "tests", "edits")
 
 
-def told(pid, root):
-    """Returns the crate and the kind of work of a process below root, and its processor time so far, or None."""
+def told(pid, session):
+    """Returns the crate and the kind of work of a check of this session, and its processor time so far, or None."""
     try:
         with open(f"/proc/{pid}/cmdline", "rb") as it:
             words = it.read().decode(errors="replace").split("\0")
@@ -29,11 +29,11 @@ def told(pid, root):
             fields = it.read().rpartition(")")[2].split()
     except (OSError, ValueError):
         return None
+    if int(fields[3]) != session:
+        return None
     crate = words[words.index("--crate-name") + 1]
     if "/rt-edit-" in cwd:
         kind = "edits"
-    elif not cwd.startswith(root):
-        return None
     elif "--test" in words:
         kind = "tests"
     else:
@@ -44,12 +44,12 @@ def told(pid, root):
 def main():
     root = os.path.realpath(sys.argv[1] if len(sys.argv) > 1 else os.path.join(os.path.dirname(__file__), ".."))
     begun = time.time()
-    gate = subprocess.Popen(["rt", "ci"], cwd=root, stdout=sys.stderr)
-    mine, seen = {gate.pid}, {}
+    gate = subprocess.Popen(["rt", "ci"], cwd=root, stdout=sys.stderr, start_new_session=True)
+    seen = {}
     while gate.poll() is None:
         for pid in os.listdir("/proc"):
             if pid.isdigit():
-                found = told(pid, root)
+                found = told(pid, gate.pid)
                 if found:
                     seen[pid, found[0]] = found[1]
         time.sleep(0.2)
