@@ -11,6 +11,9 @@ use voy_disk::{FaultPlan, MemDisk, MemSink, Place};
 /// before it in that file; `DISK fails CALL`, `out fails CALL` and `err fails CALL`, from which call on; `$ WORDS`; and
 /// `? DISK FILE`, a file that is shown at the end.
 pub fn command(alloc: Global, case: &Case) -> Result<String, Trouble> {
+    if !case.rows.lines().all(is_row) {
+        return Err(Trouble::Case("no such row"));
+    }
     let mut place = Place {
         recording: disk_of(alloc, case, "recording")?,
         export: disk_of(alloc, case, "export")?,
@@ -26,6 +29,17 @@ pub fn command(alloc: Global, case: &Case) -> Result<String, Trouble> {
     let mut shown = format!(in alloc; "{status}\n  out {printed}\n  err {told}")?;
     push_files(alloc, case, &place, &mut shown)?;
     Ok(shown)
+}
+
+/// Whether a command's case can have the row.
+fn is_row(row: &str) -> bool {
+    let (first, behind) = first_word(row);
+    let (second, _third) = first_word(behind);
+    match first {
+        "$" | "?" | "recording" | "export" | "target" | "source" => true,
+        "out" | "err" => second == "fails",
+        _ => false,
+    }
 }
 
 /// The disk of this name, with the files of its rows.

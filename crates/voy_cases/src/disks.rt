@@ -6,7 +6,7 @@ use crate::trouble::Trouble;
 use std::alloc::Global;
 use voy_disk::{Disk, DiskError, FaultPlan, MemDisk, Name, Numbers};
 
-/// What the calls on a disk in memory answer, one behind the other. Its first row may be a plan; see [`plan_of`].
+/// What the calls on a disk in memory answer, one behind the other, by the plan of the case's words.
 pub fn disk(alloc: Global, case: &Case) -> Result<String, Trouble> {
     let mut disk = MemDisk::new(alloc, plan_of(alloc, case.words)?);
     let mut shown = String::new(alloc);
@@ -48,9 +48,7 @@ pub fn planned(alloc: Global, numbers: &str) -> Result<FaultPlan, Trouble> {
 fn numbers_of(alloc: Global, text: &str) -> Result<Numbers, Trouble> {
     let mut numbers = Vec::new(alloc);
     for number in text.split(' ') {
-        if !number.is_empty() {
-            numbers.extend_from_slice(&[number_of(number)?])?;
-        }
+        numbers.extend_from_slice(&[number_of(number)?])?;
     }
     Ok(Numbers::from_vec(numbers))
 }

@@ -3,7 +3,7 @@ use crate::disks::{name_of, planned};
 use crate::showing::{hexadecimal, quoted_bytes};
 use crate::trouble::Trouble;
 use std::alloc::Global;
-use voy_disk::{DiskError, MemDisk, Name};
+use voy_disk::{DiskError, FaultPlan, MemDisk, Name};
 use voy_files::{ByteReader, Found, LineReader, read_file};
 
 /// Whether the rows are the name of a file, which then has this text, and a copy of it too.
@@ -180,7 +180,12 @@ fn take_part(
 /// case without rows has no file.
 fn disk_of(alloc: Global, case: &Case, failing: &str) -> Result<(MemDisk, Name), Trouble> {
     let name = name_of(alloc, "changes.ndjson")?;
-    let mut disk = MemDisk::new(alloc, planned(alloc, failing)?);
+    let plan = if failing.is_empty() {
+        FaultPlan::none(alloc)
+    } else {
+        planned(alloc, failing)?
+    };
+    let mut disk = MemDisk::new(alloc, plan);
     if !case.rows.is_empty() {
         disk.put_file(&name, case.bytes(alloc)?.as_slice())?;
     }

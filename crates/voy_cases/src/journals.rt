@@ -23,7 +23,10 @@ pub fn journal(alloc: Global, case: &Case) -> Result<String, Trouble> {
         disk.put_file(&name, case.with_rows(pieces).bytes(alloc)?.as_slice())?;
     }
     let read = open_and_append(alloc, case.all, payloads, &name, &mut disk)?;
-    let file = hexadecimal(alloc, disk.file(&name).unwrap_or(&[]))?;
+    let file = match disk.file(&name) {
+        Some(bytes) => hexadecimal(alloc, bytes)?,
+        None => told(alloc, "absent")?,
+    };
     let shown = format!(in alloc; "{read}; the file is {file}")?;
     Ok(shown)
 }

@@ -39,7 +39,6 @@ pub fn push_piece(alloc: Global, all: &str, row: &str, to: &mut Vec<u8>) -> Resu
             to.extend_from_slice(base_of(alloc, all, text)?.as_bytes())?;
             to.extend_from_slice(b"\n")?;
         }
-        '#' => {}
         _ => return Err(Trouble::Case("no such row")),
     }
     Ok(())
