@@ -26,7 +26,7 @@ const CHOICES: u64 = 50;
 /// The journal of a store that took the batch: an open gate, 25 bytes, and a closed gate.
 const BATCH_JOURNAL: &[u8] = b"\x01\0\0\0\x19B\0\0\0\0\0\0\0\x01\0\0\0\x02\0\0\0\x081,a\n2,b\n\0";
 
-/// What a store tells after none, one, two and three of the commits of [`three`].
+/// What a store tells after none, one, two and three of the commits of [`commit_three`].
 const AFTER: [&str; 4] = [
     "ok  0/0/0 0",
     "ok 1|a;2|b; 2/2/0 0",
