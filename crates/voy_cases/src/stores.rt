@@ -1,4 +1,5 @@
-ghost use Rattle.std.specs.Prelude.{◌≡◌, true, IfOk};
+ghost use Rattle.std.specs.Prelude.{◌≡◌, true};
+ghost use Rattle.voy_contents.specs.Known.{schema_of};
 
 use crate::case::{Case, first_word, number_of};
 use crate::disks::name_of;
@@ -21,7 +22,7 @@ pub fn store(alloc: Global, case: &Case) -> Result<String, Trouble> {
     let schema = schema_of(alloc, case)?;
     let mut store = MemStore::new(alloc, schema.copy()?)?;
     let mut shown = String::new(alloc);
-    for call in case.rows.lines() {
+    'calls: for call in case.rows.lines() {
         let answer = answer(alloc, &schema, &mut store, call)?;
         let line = format!(in alloc; "\n  {call}: {answer}")?;
         shown.push_str(line.as_str())?;
@@ -66,7 +67,10 @@ fn answer(
     schema: &Schema,
     store: &mut MemStore,
     row: &str,
-) -> Result<String, Trouble> {
+) -> Result<String, Trouble>
+    requires { schema_of store.old.contents ≡ schema.now.tables }
+    ensures { schema_of store.new.contents ≡ schema_of store.old.contents }
+{
     let (verb, behind) = first_word(row);
     match verb {
         "batch" | "load" | "changes" => commit(alloc, schema, store, row),
@@ -106,6 +110,7 @@ fn commit<S: Store>(
     requires schema { S.schema store.old ≡ schema.now.tables }
     requires live { S.is_live store.old ≡ true }
     requires stands { S.stands store.old }
+    ensures schema { S.schema store.new ≡ S.schema store.old }
 {
     let payload = payload_of(alloc, row)?;
     let Some(txn) = read_txn(alloc, schema, payload.as_slice())? else {
