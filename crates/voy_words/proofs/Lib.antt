@@ -1,0 +1,4 @@
+pub mod CommandLemmas
+pub mod GrammarLemmas
+pub mod NumberLemmas
+pub mod WordLemmas
