@@ -22,6 +22,7 @@ mod stores;
 mod trouble;
 mod txns;
 mod values;
+mod words;
 
 use case::Case;
 use std::alloc::{AllocError, Global};
@@ -85,6 +86,8 @@ fn came_to(alloc: Global, case: &Case) -> Result<String, Trouble> {
         "store" => stores::store(alloc, case),
         "stored" => stores::stored(alloc, case),
         "command" => commands::command(alloc, case),
+        "words" => words::words(alloc, case),
+        "folder" => words::folder(alloc, case),
         _ => Err(Trouble::Case("no such kind")),
     }
 }

@@ -11,6 +11,8 @@
 #![tactic(auto)]
 
 #[cfg(test)]
+mod arenas;
+#[cfg(test)]
 mod contents;
 #[cfg(test)]
 mod disk_calls;
