@@ -2,7 +2,7 @@
 //!
 //! The standard input has paragraphs with a blank line between; the format is described at its top, and each
 //! case is written from the specification of its format. The output has what each case came to, in the same
-//! order; the gate compares it with the file `stdout`, which is written by hand too. A further case takes no proof.
+//! order; the gate compares it with the file `stdout`, which comes from there too. A further case takes no proof.
 #![tactic(auto)]
 
 mod case;
