@@ -25,8 +25,10 @@ use Rattle.voy_tables.specs.declared.change.Role.TheVariants as exporter
 use Rattle.voy_event.proofs.CanonicalLemmas.{RowsAreLawful, change_is_canonical, change_is_shallow, cutover_is_canonical, cutover_is_shallow}
 use Rattle.voy_event.proofs.KeyLemmas.{agrees-same_key, agrees-with_texts, key_names_are_known, key_names_are_of_key}
 use Rattle.voy_event.proofs.MemberLemmas.{columns_are_known, names_of-with_columns, row_of-with_columns, same_text}
-use Rattle.voy_event.specs.ChangeLine.{PlacedTable, change_of, has_known_columns, has_long_row, known_reading, placed, table_named, table_reading, within_limit}
-use Rattle.voy_event.specs.EventLine.{change_event, change_event_names, cutover_event, cutover_names, cutover_vsn, document_reading, from_one, kind_reading, line_reading, max_event_line_bytes, stamped, vsn_at}
+use Rattle.voy_event.specs.ChangeLine.{PlacedTable, change_of, has_known_columns, has_long_row, placed, table_named}
+use Rattle.voy_event.specs.InTurn.{change_event, cutover_event, cutover_vsn, document_reading, kind_reading, known_reading, stamped, table_reading, within_limit}
+use Rattle.voy_event.specs.InTurnLaws.{line_is_in_turn}
+use Rattle.voy_event.specs.EventLine.{change_event_names, cutover_names, from_one, line_reading, max_event_line_bytes, vsn_at}
 use Rattle.voy_event.specs.Fields.{is_column, is_key_of_row, is_null, names_in, only_if, row_at, row_with_key}
 use Rattle.voy_event.specs.Laws.{EventsReadBack}
 use Rattle.voy_event.specs.LawfulEvent.{IsLawfulChange, IsLawfulFrom}
@@ -257,7 +259,8 @@ object_reads tables t vsn role c = refl
 line_of_data : (tables : List Table) (d : Data) (e : Event) → length (compact_text d) ≤ max_event_line_bytes → data_of_bytes (compact_text d) ≡ Some d
     → document_reading tables (Some d) ≡ Ok e → line_reading tables (compact_text d) ≡ Ok e
 line_of_data tables d e short bytes read =
-    ap (λ b. if b then Err why.TooLong else document_reading tables (data_of_bytes (compact_text d))) (le-ltb max_event_line_bytes (length (compact_text d)) short)
+    line_is_in_turn tables (compact_text d)
+    ∙ ap (λ b. if b then Err why.TooLong else document_reading tables (data_of_bytes (compact_text d))) (le-ltb max_event_line_bytes (length (compact_text d)) short)
     ∙ ap (document_reading tables) bytes ∙ read
 
 no_table : (tables : List Table) (c : Change) → is_well_formed tables c ≡ true → slice_get tables (table_of c) ≡ None → ⊥

@@ -21,8 +21,10 @@ use Rattle.voy_tables.specs.declared.change.Change.{Change}
 use Rattle.voy_tables.specs.declared.change.Change.TheVariants as change
 use Rattle.voy_tables.specs.declared.change.Role.{Role}
 use Rattle.voy_tables.specs.declared.change.Role.TheVariants as exporter
-use Rattle.voy_event.specs.ChangeLine.{PlacedTable, change_of, has_long_row, known_reading, named_reading, placed, table_named, table_reading, within_limit}
-use Rattle.voy_event.specs.EventLine.{change_event, change_event_names, cutover_event, cutover_names, cutover_vsn, document_reading, from_one, has_exporter, kind_reading, line_reading, max_event_line_bytes, stamped, vsn_at}
+use Rattle.voy_event.specs.ChangeLine.{PlacedTable, change_of, has_long_row, placed, table_named}
+use Rattle.voy_event.specs.InTurn.{change_event, cutover_event, cutover_vsn, document_reading, kind_reading, known_reading, named_reading, stamped, table_reading, within_limit}
+use Rattle.voy_event.specs.InTurnLaws.{line_is_in_turn}
+use Rattle.voy_event.specs.EventLine.{change_event_names, cutover_names, from_one, has_exporter, line_reading, max_event_line_bytes, vsn_at}
 use Rattle.voy_event.specs.Fields.{agrees_at, is_key_of_row, only_if, row_at, row_of, row_with_key}
 use Rattle.voy_event.specs.LawfulEvent.{IsLawful, IsLawfulChange, IsLawfulFrom, IsWritable, IsWritableWhat}
 use Rattle.voy_event.specs.Words.{event_kind, in_64_bits, number_at, role_at, text_at}
@@ -274,7 +276,7 @@ document_is_lawful tables (Some d) e read = kind_is_lawful tables d (event_kind 
 -- an event that was read is lawful for the schema
 pub event_is_lawful : (tables : List Table) (bytes : List ℕ) (e : Event) → line_reading tables bytes ≡ Ok e → IsLawful tables e
 event_is_lawful tables bytes e read =
-    document_is_lawful tables (data_of_bytes bytes) e (past_test (nat_lt max_event_line_bytes (length bytes)) why.TooLong _ e read)
+    document_is_lawful tables (data_of_bytes bytes) e (past_test (nat_lt max_event_line_bytes (length bytes)) why.TooLong _ e (sym (line_is_in_turn tables bytes) ∙ read))
 
 -- ---- an event that was read may be written
 

@@ -4,8 +4,10 @@ pub mod Fields
 pub mod ChangeLine
 pub mod EventLine
 pub mod LawfulEvent
-pub mod EventLaws
+pub mod InTurn
+pub mod InTurnLaws
 pub mod RecordedLine
+pub mod EventLaws
 pub mod RecordedLaws
 pub mod LineText
 pub mod Laws

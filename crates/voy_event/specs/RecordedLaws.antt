@@ -1,14 +1,16 @@
 -- What a reading of a recorded line gives: a change that is well formed for the schema.
 use Rattle.std.specs.Prelude.{◌≡◌, ℕ, List, Option, Some, None, Result, Ok, Err, codes, length, nat_lt, refl}
-use Rattle.std.proofs.Common.{subst}
+use Rattle.std.proofs.Common.{subst, sym, ◌∙◌}
 use Rattle.serde_json.specs.Data.{Data}
 use Rattle.voy_json.specs.Document.{data_of_bytes, is_object}
 use Rattle.voy_schema.specs.declared.table.Table.{Table}
 use Rattle.voy_tables.specs.declared.change.Change.{Change}
-use Rattle.voy_event.specs.ChangeLine.{PlacedTable, change_of, table_reading, within_limit}
+use Rattle.voy_event.specs.ChangeLine.{PlacedTable, change_of}
+use Rattle.voy_event.specs.InTurn.{recorded_change, recorded_document_reading, recorded_op_reading, spotted, table_reading, within_limit}
+use Rattle.voy_event.specs.InTurnLaws.{recorded_is_in_turn}
 use Rattle.voy_event.specs.EventLaws.{before_refusal, change_is_lawful, past_test}
 use Rattle.voy_event.specs.LawfulEvent.{IsLawfulChange}
-use Rattle.voy_event.specs.RecordedLine.{max_recorded_line_bytes, recorded_change, recorded_document_reading, recorded_names, recorded_op_reading, recorded_reading, spotted}
+use Rattle.voy_event.specs.RecordedLine.{max_recorded_line_bytes, recorded_names, recorded_reading}
 use Rattle.voy_event.specs.Words.{change_op, number_at}
 use Rattle.voy_event.specs.declared.line_error.LineWhy.{LineWhy}
 use Rattle.voy_event.specs.declared.line_error.LineWhy.TheVariants as why
@@ -44,4 +46,4 @@ recorded_document_is_lawful tables (Some d) r read = op_is_lawful tables d (chan
 -- a recorded change that was read is well formed for the schema, with rows within their limit
 pub recorded_is_lawful : (tables : List Table) (bytes : List ℕ) (r : Recorded) → recorded_reading tables bytes ≡ Ok r → IsLawfulChange tables r.change
 recorded_is_lawful tables bytes r read =
-    recorded_document_is_lawful tables (data_of_bytes bytes) r (past_test (nat_lt max_recorded_line_bytes (length bytes)) why.TooLong _ r read)
+    recorded_document_is_lawful tables (data_of_bytes bytes) r (past_test (nat_lt max_recorded_line_bytes (length bytes)) why.TooLong _ r (sym (recorded_is_in_turn tables bytes) ∙ read))

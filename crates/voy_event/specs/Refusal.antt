@@ -1,5 +1,6 @@
 -- What a refusal of a line says.
-use Rattle.std.specs.Prelude.{◌≡◌, ℕ, List, Result, Err, codes}
+use Rattle.std.specs.Prelude.{◌≡◌, ℕ, List, Option, Some, None, Result, Err, codes}
+use Rattle.std.specs.Option.{ok_or}
 use Rattle.voy_event.specs.declared.line_error.LineError.{LineError}
 use Rattle.voy_event.specs.declared.line_error.LineError.TheVariants.{Bad, NoMemory}
 use Rattle.voy_event.specs.declared.line_error.LineWhy.{LineWhy}
@@ -17,3 +18,8 @@ text_of_why why.BadOp = codes "bad op"
 text_of_why why.Missing = codes "missing name"
 text_of_why why.Unknown = codes "unknown name"
 text_of_why why.BadValue = codes "bad value"
+
+-- what a line states, where it breaks no rule
+abbrev pub unless_broken : {A : Type 0} → Option LineWhy → Option A → Result A LineWhy
+unless_broken (Some cause) stated = Err cause
+unless_broken None stated = ok_or stated why.BadValue

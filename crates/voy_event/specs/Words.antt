@@ -1,14 +1,23 @@
 -- The words of a line's `op` and exporter, and the strings and numbers at its names.
 use Rattle.std.specs.Prelude.{ℕ, ◌^◌, List, Option, Some, None, codes, nat_lt, option_and_then, option_map, if◌then◌else◌}
 use Rattle.std.specs.Str.{bytes_eq}
-use Rattle.serde_json.specs.Data.{Data}
+use Rattle.serde_json.specs.Data.{Data, null}
 use Rattle.serde_json.specs.Find.{as_number, as_str, as_u64, get}
+use Rattle.voy_json.specs.Document.{data_of_bytes}
 use Rattle.voy_event.specs.declared.words.EventKind.{EventKind}
 use Rattle.voy_event.specs.declared.words.EventKind.TheVariants.{Change, CutoverTarget, CutoverSource}
 use Rattle.voy_event.specs.declared.words.Op.{Op}
 use Rattle.voy_event.specs.declared.words.Op.TheVariants.{Insert, Update, Delete}
 use Rattle.voy_tables.specs.declared.change.Role.{Role}
 use Rattle.voy_tables.specs.declared.change.Role.TheVariants as exporter
+
+abbrev pub or_null : Option Data → Data
+or_null None = null
+or_null (Some d) = d
+
+-- the JSON document that the bytes are; null, which is no object, where they are none
+abbrev pub document : List ℕ → Data
+document bytes = or_null (data_of_bytes bytes)
 
 unfoldable pub op_of_text : List ℕ → Option Op
 op_of_text text =

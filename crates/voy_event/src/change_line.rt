@@ -1,6 +1,7 @@
 ghost use Rattle.std.specs.Prelude.{◌≡◌, IfOk, IfErr, map, option_map};
 ghost use Rattle.serde_json.specs.View.{view};
-ghost use Rattle.voy_event.specs.ChangeLine.{change_of, has_known_columns, has_long_row, seen, table_named, table_reading, within_limit};
+ghost use Rattle.voy_event.specs.ChangeLine.{change_of, has_known_columns, has_long_row, seen, table_named};
+ghost use Rattle.voy_event.specs.InTurn.{table_reading, within_limit};
 ghost use Rattle.voy_event.specs.Refusal.{Refuses};
 
 use crate::fields::{has_only_columns, is_null, row_at};

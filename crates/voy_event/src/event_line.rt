@@ -1,6 +1,7 @@
 ghost use Rattle.std.specs.Prelude.{◌≡◌, Some, IfOk, IfErr};
 ghost use Rattle.serde_json.specs.View.{view};
-ghost use Rattle.voy_event.specs.EventLine.{cutover_vsn, document_reading, has_exporter, kind_reading, line_reading, vsn_at};
+ghost use Rattle.voy_event.specs.EventLine.{has_exporter, line_reading, vsn_at};
+ghost use Rattle.voy_event.specs.InTurn.{cutover_vsn, document_reading, kind_reading, line_in_turn};
 ghost use Rattle.voy_event.specs.LawfulEvent.{IsLawful};
 ghost use Rattle.voy_event.specs.Refusal.{Refuses};
 
@@ -38,6 +39,13 @@ pub fn read_line(alloc: Global, schema: &Schema, bytes: &[u8]) -> Result<Event, 
     ensures ok { IfOk result (λ event. line_reading schema.now.tables bytes.now ≡ Ok event) }
     ensures err { IfErr result (Refuses (line_reading schema.now.tables bytes.now)) }
     ensures lawful { IfOk result (IsLawful schema.now.tables) }
+{
+    read_in_turn(alloc, schema, bytes)
+}
+
+fn read_in_turn(alloc: Global, schema: &Schema, bytes: &[u8]) -> Result<Event, LineError>
+    ensures ok { IfOk result (λ event. line_in_turn schema.now.tables bytes.now ≡ Ok event) }
+    ensures err { IfErr result (Refuses (line_in_turn schema.now.tables bytes.now)) }
 {
     if bytes.len() > MAX_EVENT_LINE_BYTES {
         return Err(LineError::Bad(LineWhy::TooLong));

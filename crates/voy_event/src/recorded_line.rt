@@ -1,7 +1,8 @@
 ghost use Rattle.std.specs.Prelude.{◌≡◌, Some, IfOk, IfErr};
 ghost use Rattle.serde_json.specs.View.{view};
 ghost use Rattle.voy_event.specs.LawfulEvent.{IsLawfulChange};
-ghost use Rattle.voy_event.specs.RecordedLine.{recorded_document_reading, recorded_op_reading, recorded_reading};
+ghost use Rattle.voy_event.specs.InTurn.{recorded_document_reading, recorded_in_turn, recorded_op_reading};
+ghost use Rattle.voy_event.specs.RecordedLine.{recorded_reading};
 ghost use Rattle.voy_event.specs.Refusal.{Refuses};
 
 use crate::change_line::{read_row_change, table_of_line};
@@ -36,6 +37,13 @@ pub fn read_change(alloc: Global, schema: &Schema, bytes: &[u8]) -> Result<Recor
         recorded_reading schema.now.tables bytes.now ≡ Ok recorded) }
     ensures err { IfErr result (Refuses (recorded_reading schema.now.tables bytes.now)) }
     ensures lawful { IfOk result (λ recorded. IsLawfulChange schema.now.tables recorded.change) }
+{
+    read_in_turn(alloc, schema, bytes)
+}
+
+fn read_in_turn(alloc: Global, schema: &Schema, bytes: &[u8]) -> Result<Recorded, LineError>
+    ensures ok { IfOk result (λ recorded. recorded_in_turn schema.now.tables bytes.now ≡ Ok recorded) }
+    ensures err { IfErr result (Refuses (recorded_in_turn schema.now.tables bytes.now)) }
 {
     if bytes.len() > MAX_RECORDED_LINE_BYTES {
         return Err(LineError::Bad(LineWhy::TooLong));

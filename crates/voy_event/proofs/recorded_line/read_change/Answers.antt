@@ -1,19 +1,37 @@
-use Rattle.std.proofs.Common.{◌≡◌, IfOk, List, Some, Ok, Err, Result}
-use Rattle.serde_json.specs.Data.{Data}
-use Rattle.serde_json.specs.View.{view}
+use Rattle.std.proofs.Common.{◌≡◌, ◌∙◌, ℕ, List, Result, Ok, Err, IfOk, IfErr}
 use Rattle.voy_schema.specs.declared.table.Table.{Table}
-use Rattle.voy_event.specs.RecordedLaws.{recorded_document_is_lawful}
-use Rattle.voy_event.specs.RecordedLine.{recorded_document_reading}
+use Rattle.voy_event.specs.InTurn.{recorded_in_turn}
+use Rattle.voy_event.specs.InTurnLaws.{recorded_is_in_turn}
 use Rattle.voy_event.specs.LawfulEvent.{IsLawfulChange}
+use Rattle.voy_event.specs.RecordedLaws.{recorded_is_lawful}
+use Rattle.voy_event.specs.RecordedLine.{recorded_reading}
+use Rattle.voy_event.specs.Refusal.{Refuses}
 use Rattle.voy_event.specs.declared.recorded.Recorded.{Recorded}
 use Rattle.voy_event.specs.declared.line_error.LineError.{LineError}
+use Rattle.voy_event.specs.declared.line_error.LineError.TheVariants.{Bad, NoMemory}
 use Rattle.voy_event.proofs.recorded_line.read_change.Goals as goal
 
-read_is_lawful : (tables : List Table) (d : Data) (r : Result Recorded LineError)
-    → IfOk r (λ e. recorded_document_reading tables (Some d) ≡ Ok e) → IfOk r (λ e. IsLawfulChange tables e.change)
-read_is_lawful tables d (Ok e) read = recorded_document_is_lawful tables (Some d) e read
-read_is_lawful tables d (Err cause) read = tt
+read_ok : (tables : List Table) (bytes : List ℕ) (r : Result Recorded LineError)
+    → IfOk r (λ e. recorded_in_turn tables bytes ≡ Ok e) → IfOk r (λ e. recorded_reading tables bytes ≡ Ok e)
+read_ok tables bytes (Ok e) read = recorded_is_in_turn tables bytes ∙ read
+read_ok tables bytes (Err cause) read = tt
 
-pub returns-in-Ok-clause-lawful : goal.returns-in-Ok-clause-lawful
-returns-in-Ok-clause-lawful c =
-    read_is_lawful c.args.schema.now.tables (view c.in-Ok.line) c.read_document.result c.read_document.ensures.ok
+read_err : (tables : List Table) (bytes : List ℕ) (r : Result Recorded LineError)
+    → IfErr r (Refuses (recorded_in_turn tables bytes)) → IfErr r (Refuses (recorded_reading tables bytes))
+read_err tables bytes (Ok e) refused = tt
+read_err tables bytes (Err (Bad cause)) refused = recorded_is_in_turn tables bytes ∙ refused
+read_err tables bytes (Err NoMemory) refused = tt
+
+read_is_lawful : (tables : List Table) (bytes : List ℕ) (r : Result Recorded LineError)
+    → IfOk r (λ e. recorded_in_turn tables bytes ≡ Ok e) → IfOk r (λ e. IsLawfulChange tables e.change)
+read_is_lawful tables bytes (Ok e) read = recorded_is_lawful tables bytes e (recorded_is_in_turn tables bytes ∙ read)
+read_is_lawful tables bytes (Err cause) read = tt
+
+pub returns-clause-ok : goal.returns-clause-ok
+returns-clause-ok c = read_ok c.args.schema.now.tables c.args.bytes.now c.read_in_turn.result c.read_in_turn.ensures.ok
+
+pub returns-clause-err : goal.returns-clause-err
+returns-clause-err c = read_err c.args.schema.now.tables c.args.bytes.now c.read_in_turn.result c.read_in_turn.ensures.err
+
+pub returns-clause-lawful : goal.returns-clause-lawful
+returns-clause-lawful c = read_is_lawful c.args.schema.now.tables c.args.bytes.now c.read_in_turn.result c.read_in_turn.ensures.ok
