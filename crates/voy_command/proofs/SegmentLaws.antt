@@ -4,6 +4,7 @@ use Rattle.std.proofs.lemmas.Bool.Decides.{nat_tests}
 use Rattle.std.specs.Cmp.Lexicographic.{same_text}
 use Rattle.std.specs.Str.{bytes_eq}
 use Rattle.voy_event.specs.EventLine.{max_event_line_bytes}
+use Rattle.voy_event.specs.Events.{closing_line, ends_part}
 use Rattle.voy_disk.specs.Faults.{Rose}
 use Rattle.voy_disk.specs.File.{File}
 use Rattle.voy_disk.specs.Files.{bytes_now}
@@ -18,7 +19,7 @@ use Rattle.voy_files.specs.Lines.{lines_of}
 use Rattle.voy_schema.specs.declared.table.Table.{Table}
 use Rattle.voy_command.specs.DryRun.{outcome_of_lines, refusing, shown, with_fold, with_rest}
 use Rattle.voy_command.specs.Folding.{Stops, fold_from, outcome_from, rest_from}
-use Rattle.voy_command.specs.Segment.{Queue, closing_line, event_lines, folded, is_cutover, is_empty, queue_of, without_closing}
+use Rattle.voy_command.specs.Segment.{Queue, event_lines, folded, is_empty, queue_of, without_closing}
 use Rattle.voy_command.specs.Files.{file_bytes}
 use Rattle.voy_command.specs.Stops.{is_refusal}
 use Rattle.voy_command.specs.declared.answer.Answer.{Answer}
@@ -94,7 +95,7 @@ with_fold_from schema queue (Err vsn) = refl
 with_fold_from schema queue (Ok lists) = rest_of schema queue.events lists queue.refused where
   rest_of : (schema : List Table) (events : List Event) (lists : List (List (List Value))) (refused : Option (ℕ × LineWhy))
       → with_rest schema events lists refused ≡ rest_from schema 0 false events lists refused
-  rest_of schema events lists None = ap (λ n. shown schema lists n (list_any is_cutover events)) (sym (zero-add (length events)))
+  rest_of schema events lists None = ap (λ n. shown schema lists n (list_any ends_part events)) (sym (zero-add (length events)))
   rest_of schema events lists (Some refused) = refl
 
 -- a fold of no events has the whole outcome before it

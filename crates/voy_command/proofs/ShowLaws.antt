@@ -19,7 +19,7 @@ use Rattle.voy_command.specs.Show.{HasStoreText, KeepsStore, MustShow, Shows, St
 use Rattle.voy_command.specs.Stops.{RefusesSchema, StopsSchema, StopsStore, open_stop}
 use Rattle.voy_command.specs.declared.answer.Answer.{Answer}
 use Rattle.voy_command.specs.declared.answer.Cause.{Cause}
-use Rattle.voy_command.specs.declared.side.Side.{Side}
+use Rattle.voy_tables.specs.declared.change.Side.{Side}
 
 -- ---- one text alone
 

@@ -1,10 +1,11 @@
 -- A valid stream is folded to its end, and no other one is.
 use Rattle.std.proofs.Common.{◌≡◌, ◌↔◌, ◌⊎◌, ◌++◌, ℕ, ◌+◌, Bool, true, false, List, [], ◌∷◌, Option, Some, None, Result, Ok, Err, is_some, refl, sym, ap, ◌∙◌, inl, inr, subst}
-use Rattle.std.specs.Prelude.{if◌then◌else◌, is_ok, slice_get}
-use Rattle.std.specs.List.{list_any}
+use Rattle.std.specs.Prelude.{if◌then◌else◌, is_ok, map, slice_get}
+use Rattle.std.specs.List.{cons_option, list_any}
 use Rattle.voy_disk.specs.Files.{Files}
 use Rattle.voy_event.specs.EventLaws.{event_is_lawful}
 use Rattle.voy_event.specs.EventLine.{line_reading}
+use Rattle.voy_event.specs.Events.{change_in, changes_in, ends_part}
 use Rattle.voy_event.specs.LawfulEvent.{IsLawful, IsLawfulFrom}
 use Rattle.voy_event.specs.declared.event.Event.{Event}
 use Rattle.voy_event.specs.declared.event.What.{What}
@@ -24,13 +25,14 @@ use Rattle.voy_tables.specs.declared.change.Misfit.{Misfit}
 use Rattle.voy_command.specs.DryRunAnswered.{ComesFrom}
 use Rattle.voy_command.specs.DryRun.{end_answer, outcome_of_lines, with_fold, with_rest}
 use Rattle.voy_command.specs.Files.{dry_run_outcome, file_bytes, schema_name, segment_name}
-use Rattle.voy_command.specs.Segment.{Queue, add_event, as_next, event_lines, event_misfit, folded, is_cutover, lists_with, queue_of}
+use Rattle.voy_command.specs.Folding.{event_misfit, lists_with}
+use Rattle.voy_command.specs.Segment.{Queue, add_event, as_next, event_lines, folded, queue_of}
 use Rattle.voy_command.specs.Stops.{is_refusal}
-use Rattle.voy_command.specs.Valid.{FoldsWhereValid, IsComplete, IsValidInput, ValidStreamsFold, changes_in, changes_of, reaches_cutover, segment_queue}
+use Rattle.voy_command.specs.Valid.{FoldsWhereValid, IsComplete, IsValidInput, ValidStreamsFold, changes_of, reaches_cutover, segment_queue}
 use Rattle.voy_command.specs.declared.answer.Answer.{Answer}
 use Rattle.voy_command.specs.declared.answer.Answer.TheVariants.{Done, Waiting, Shown, NoCommand, NoReading, Fault, NoMemory, Damaged, Invalid, Refused, OutputFault, TooLong, NotBuilt}
 use Rattle.voy_command.specs.declared.answer.Which.TheVariants.{Recording, Export, Target, Source}
-use Rattle.voy_command.proofs.FoldingLaws.{chosen, is_refusal-line_refusal}
+use Rattle.voy_command.proofs.FoldingLaws.{chosen, folded_more, is_refusal-line_refusal}
 
 -- ---- no rows
 
@@ -75,7 +77,7 @@ queue_is_lawful schema number ended (line ∷ lines) =
         → ((cut : Bool) → AreLawful schema (queue_of schema (number + 1) cut lines).events)
         → AreLawful schema (add_event number r (λ cut. queue_of schema (number + 1) cut lines)).events
     by_reading (Err why) read behind = tt
-    by_reading (Ok e) read behind = (event_is_lawful schema line e (as_next-read number ended (line_reading schema line) e read), behind (is_cutover e))
+    by_reading (Ok e) read behind = (event_is_lawful schema line e (as_next-read number ended (line_reading schema line) e read), behind (ends_part e))
 
 -- ---- the fold of lawful events
 
@@ -85,7 +87,8 @@ folds : ListsAreTables → MisfitIsNoneWhereItFits → (schema : List Table) (li
     → (is_ok (folded schema lists events) ≡ true) ↔ FitInTurn schema (look schema lists) (changes_of schema events)
 folds done fit schema lists [] stand lawful = (λ _. tt, λ _. refl)
 folds done fit schema lists (e ∷ events) stand lawful =
-    by_what e.what lawful.0.what (λ after stands. folds done fit schema after events stands lawful.1)
+    subst (λ f. (is_ok f ≡ true) ↔ FitInTurn schema (look schema lists) (changes_of schema (e ∷ events))) (sym (folded_more schema lists e events))
+    (by_what e.what lawful.0.what (λ after stands. folds done fit schema after events stands lawful.1))
   where
     by_change : (c : Change) → IsLawfulFrom schema e.role (what.Change c)
         → (are_tables schema (lists_after schema (row_change schema c) lists) ≡ true
@@ -110,7 +113,7 @@ folds done fit schema lists (e ∷ events) stand lawful =
         → ((after : List (List (List Value))) → are_tables schema after ≡ true
         → (is_ok (folded schema after events) ≡ true) ↔ FitInTurn schema (look schema after) (changes_of schema events))
         → (is_ok (if is_some (event_misfit schema lists w) then Err e.vsn else folded schema (lists_with schema lists w) events) ≡ true)
-        ↔ FitInTurn schema (look schema lists) (changes_in schema w ++ changes_of schema events)
+        ↔ FitInTurn schema (look schema lists) (map (row_change schema) (cons_option (change_in w) (changes_in events)))
     by_what (what.Change c) lawful behind =
         by_change c lawful (behind (lists_after schema (row_change schema c) lists)) (misfit_of schema (row_change schema c) lists) refl
     by_what what.CutoverTarget lawful behind = behind lists stand
@@ -120,7 +123,7 @@ folds done fit schema lists (e ∷ events) stand lawful =
 
 -- with a whole fold and no refused line it is that of the end
 whole_ends : (schema : List Table) (queue : Queue) (f : Result (List (List (List Value))) ℕ) → is_ok f ≡ true → queue.refused ≡ None
-    → (with_fold schema queue f).answer ≡ end_answer (list_any is_cutover queue.events)
+    → (with_fold schema queue f).answer ≡ end_answer (list_any ends_part queue.events)
 whole_ends schema queue (Err vsn) whole none = cc
 whole_ends schema queue (Ok lists) whole none = rw none refl
 

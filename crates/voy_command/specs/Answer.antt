@@ -8,8 +8,8 @@ use Rattle.voy_command.specs.declared.answer.Cause.{Cause}
 use Rattle.voy_command.specs.declared.answer.Cause.TheVariants.{MissingSchema, Schema, Segment}
 use Rattle.voy_command.specs.declared.answer.Which.{Which}
 use Rattle.voy_command.specs.declared.answer.Which.TheVariants.{Recording, Export, Target, Source}
-use Rattle.voy_command.specs.declared.side.Side.{Side}
-use Rattle.voy_command.specs.declared.side.Side.TheVariants as side
+use Rattle.voy_tables.specs.declared.change.Side.{Side}
+use Rattle.voy_tables.specs.declared.change.Side.TheVariants as side
 use Rattle.voy_command.specs.declared.words.Phrase.{Phrase}
 use Rattle.voy_command.specs.declared.words.Phrase.TheVariants.{ImportToTarget, Show}
 

@@ -1,6 +1,7 @@
 -- What the dry run without metadata answers, and what it prints.
 use Rattle.std.specs.Prelude.{ℕ, Bool, false, List, [], ◌++◌, Option, Some, None, Result, Ok, Err, codes, decimal, length, if◌then◌else◌}
 use Rattle.std.specs.List.{list_any}
+use Rattle.voy_event.specs.Events.{ends_part}
 use Rattle.voy_event.specs.declared.event.Event.{Event}
 use Rattle.voy_event.specs.declared.line_error.LineWhy.{LineWhy}
 use Rattle.voy_event.specs.declared.line_error.LineWhy.TheVariants as why
@@ -9,7 +10,7 @@ use Rattle.voy_schema.specs.declared.table.Table.{Table}
 use Rattle.voy_schema.specs.declared.value.Value.{Value}
 use Rattle.voy_tables.specs.Lists.{empty_lists}
 use Rattle.voy_command.specs.Recorded.{recorded_schema}
-use Rattle.voy_command.specs.Segment.{Queue, event_lines, folded, is_cutover, queue_of}
+use Rattle.voy_command.specs.Segment.{Queue, event_lines, folded, queue_of}
 use Rattle.voy_command.specs.declared.answer.Answer.{Answer}
 use Rattle.voy_command.specs.declared.answer.Answer.TheVariants.{Done, Waiting, Invalid, Refused, TooLong}
 use Rattle.voy_command.specs.declared.answer.Cause.{Cause}
@@ -49,7 +50,7 @@ line_refusal line why.BadValue = Refused (Segment line why.BadValue)
 
 -- behind the events there is no line, or one that is refused
 abbrev pub with_rest : List Table → List Event → List (List (List Value)) → Option (ℕ × LineWhy) → Outcome
-with_rest schema events lists None = shown schema lists (length events) (list_any is_cutover events)
+with_rest schema events lists None = shown schema lists (length events) (list_any ends_part events)
 with_rest schema events lists (Some refused) = refusing (line_refusal refused.0 refused.1)
 
 -- a change that does not fit is told before a line behind it

@@ -2,7 +2,9 @@
 use Rattle.std.specs.Prelude.{◌≡◌, ℕ, ◌+◌, Bool, List, [], ◌∷◌, ◌||◌, ◌⊎◌, Option, Some, None, Result, Ok, Err, length, is_some, true, false}
 use Rattle.std.specs.List.{list_any}
 use Rattle.voy_event.specs.EventLine.{line_reading}
+use Rattle.voy_event.specs.Events.{ends_part}
 use Rattle.voy_event.specs.declared.event.Event.{Event}
+use Rattle.voy_event.specs.declared.event.What.{What}
 use Rattle.voy_event.specs.declared.event.What.TheVariants as what
 use Rattle.voy_event.specs.declared.line_error.LineWhy.{LineWhy}
 use Rattle.voy_disk.specs.Files.{Files}
@@ -11,16 +13,30 @@ use Rattle.voy_files.specs.Reader.{unread}
 use Rattle.voy_files.specs.declared.line_reader.LineReader.{LineReader}
 use Rattle.voy_schema.specs.declared.table.Table.{Table}
 use Rattle.voy_schema.specs.declared.value.Value.{Value}
+use Rattle.voy_tables.specs.Changes.{row_change}
+use Rattle.voy_tables.specs.Lists.{lists_after, misfit_of}
 use Rattle.voy_tables.specs.declared.change.Change.{Change}
+use Rattle.voy_tables.specs.declared.change.Misfit.{Misfit}
 use Rattle.voy_command.specs.DryRun.{Outcome, line_refusal, refusing, shown}
-use Rattle.voy_command.specs.Segment.{Queue, as_next, event_misfit, folded, is_cutover, lists_with, queue_of, without_closing}
+use Rattle.voy_command.specs.Segment.{Queue, as_next, folded, queue_of, without_closing}
 use Rattle.voy_command.specs.Stops.{is_refusal}
 use Rattle.voy_command.specs.declared.answer.Answer.{Answer}
 use Rattle.voy_command.specs.declared.answer.Answer.TheVariants as answer
 use Rattle.voy_command.specs.declared.fold.Fold.{Fold}
 
+-- why an event does not fit the tables; a cutover fits any
+abbrev pub event_misfit : List Table → List (List (List Value)) → What → Option Misfit
+event_misfit schema lists (what.Change c) = misfit_of schema (row_change schema c) lists
+event_misfit schema lists what.CutoverTarget = None
+event_misfit schema lists what.CutoverSource = None
+
+abbrev pub lists_with : List Table → List (List (List Value)) → What → List (List (List Value))
+lists_with schema lists (what.Change c) = lists_after schema (row_change schema c) lists
+lists_with schema lists what.CutoverTarget = lists
+lists_with schema lists what.CutoverSource = lists
+
 abbrev pub rest_from : List Table → ℕ → Bool → List Event → List (List (List Value)) → Option (ℕ × LineWhy) → Outcome
-rest_from schema last ended events lists None = shown schema lists (last + length events) (ended || list_any is_cutover events)
+rest_from schema last ended events lists None = shown schema lists (last + length events) (ended || list_any ends_part events)
 rest_from schema last ended events lists (Some refused) = refusing (line_refusal refused.0 refused.1)
 
 abbrev pub fold_from : List Table → ℕ → Bool → Queue → Result (List (List (List Value))) ℕ → Outcome
@@ -61,7 +77,7 @@ pub record Takes (old : Fold) (event : Event) (new : Fold) : Type 0 where
   pub lists : new.plain.lists ≡ lists_with old.plain.schema.tables old.plain.lists event.what
   pub schema : new.plain.schema ≡ old.plain.schema
   pub last : new.last ≡ event.vsn
-  pub ended : new.ended ≡ is_cutover event
+  pub ended : new.ended ≡ ends_part event
 
 -- the event's change does not fit
 abbrev pub IsNoFit : Fold → Event → Answer → Type 0

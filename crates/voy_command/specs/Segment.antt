@@ -1,24 +1,18 @@
 -- The source part of the queue that a segment states, and its fold into tables.
-use Rattle.std.specs.Prelude.{ℕ, ◌+◌, Bool, true, false, List, [], ◌∷◌, ◌&&◌, ◌==◌, Option, Some, None, Result, Ok, Err, codes, not, is_some, if◌then◌else◌}
+use Rattle.std.specs.Prelude.{ℕ, ◌+◌, Bool, true, false, List, [], ◌∷◌, ◌&&◌, ◌==◌, Option, Some, None, Result, Ok, Err, map, not, if◌then◌else◌}
 use Rattle.std.specs.Str.{bytes_eq}
 use Rattle.voy_event.specs.EventLine.{line_reading}
+use Rattle.voy_event.specs.Events.{changes_in, closing_line, ends_part, is_by_source, vsn_changes}
 use Rattle.voy_event.specs.declared.event.Event.{Event}
-use Rattle.voy_event.specs.declared.event.What.{What}
-use Rattle.voy_event.specs.declared.event.What.TheVariants as what
 use Rattle.voy_event.specs.declared.line_error.LineWhy.{LineWhy}
 use Rattle.voy_event.specs.declared.line_error.LineWhy.TheVariants.{BadValue}
 use Rattle.voy_files.specs.Lines.{lines_of}
 use Rattle.voy_schema.specs.declared.table.Table.{Table}
 use Rattle.voy_schema.specs.declared.value.Value.{Value}
 use Rattle.voy_tables.specs.Changes.{row_change}
-use Rattle.voy_tables.specs.Lists.{lists_after, misfit_of}
+use Rattle.voy_tables.specs.Folds.{misfit_among}
+use Rattle.voy_tables.specs.Lists.{fold_lists}
 use Rattle.voy_tables.specs.declared.change.Misfit.{Misfit}
-use Rattle.voy_tables.specs.declared.change.Role.{Role}
-use Rattle.voy_tables.specs.declared.change.Role.TheVariants as exporter
-
--- the line that closes a segment
-unfoldable pub closing_line : List ℕ
-closing_line = codes "\\."
 
 -- a last line that closes the segment is none of its events
 abbrev pub without_closing : List (List ℕ) → List (List ℕ)
@@ -30,17 +24,6 @@ without_closing (line ∷ next ∷ lines) = line ∷ without_closing (next ∷ l
 abbrev pub event_lines : Option (List ℕ) → List (List ℕ)
 event_lines None = []
 event_lines (Some bytes) = without_closing (lines_of bytes)
-
-abbrev pub is_by_source : Role → Bool
-is_by_source exporter.Source = true
-is_by_source exporter.Target = false
-
-abbrev pub is_cutover : Event → Bool
-is_cutover e = cuts_over e.what where
-  cuts_over : What → Bool
-  cuts_over (what.Change c) = false
-  cuts_over what.CutoverTarget = true
-  cuts_over what.CutoverSource = true
 
 -- the next event of the source part: of this vsn, by the source's exporter, and not behind the cutover
 abbrev pub as_next : ℕ → Bool → Result Event LineWhy → Result Event LineWhy
@@ -54,7 +37,7 @@ pub record Queue : Type 0 where
 
 abbrev pub add_event : ℕ → Result Event LineWhy → (Bool → Queue) → Queue
 add_event line (Err why) rest = record { events = []; refused = Some (line, why) }
-add_event line (Ok e) rest = record { events = e ∷ (rest (is_cutover e)).events; refused = (rest (is_cutover e)).refused }
+add_event line (Ok e) rest = record { events = e ∷ (rest (ends_part e)).events; refused = (rest (ends_part e)).refused }
 
 -- the lines from this number on, where the line of number n states the event of vsn n
 abbrev pub queue_of : List Table → ℕ → Bool → List (List ℕ) → Queue
@@ -62,22 +45,15 @@ queue_of schema number ended [] = record { events = []; refused = None }
 queue_of schema number ended (line ∷ lines) =
     add_event number (as_next number ended (line_reading schema line)) (λ cut. queue_of schema (number + 1) cut lines)
 
--- why an event does not fit the tables; a cutover fits any
-abbrev pub event_misfit : List Table → List (List (List Value)) → What → Option Misfit
-event_misfit schema lists (what.Change c) = misfit_of schema (row_change schema c) lists
-event_misfit schema lists what.CutoverTarget = None
-event_misfit schema lists what.CutoverSource = None
-
-abbrev pub lists_with : List Table → List (List (List Value)) → What → List (List (List Value))
-lists_with schema lists (what.Change c) = lists_after schema (row_change schema c) lists
-lists_with schema lists what.CutoverTarget = lists
-lists_with schema lists what.CutoverSource = lists
+-- these tables, or the vsn of the change that does not fit
+abbrev pub unless_misfit : List (List (List Value)) → Option (ℕ × Misfit) → Result (List (List (List Value))) ℕ
+unless_misfit lists None = Ok lists
+unless_misfit lists (Some found) = Err found.0
 
 -- the fold of the events' changes, or the vsn of the first that does not fit the fold of those before it
 abbrev pub folded : List Table → List (List (List Value)) → List Event → Result (List (List (List Value))) ℕ
-folded schema lists [] = Ok lists
-folded schema lists (e ∷ events) =
-    if is_some (event_misfit schema lists e.what) then Err e.vsn else folded schema (lists_with schema lists e.what) events
+folded schema lists events =
+    unless_misfit (fold_lists schema lists (map (row_change schema) (changes_in events))) (misfit_among schema lists (vsn_changes events))
 
 abbrev pub is_empty : List ℕ → Bool
 is_empty [] = true

@@ -20,8 +20,8 @@ use Rattle.voy_command.specs.declared.answer.Answer.{Answer}
 use Rattle.voy_command.specs.declared.answer.Answer.TheVariants.{Shown, Fault, NoMemory, Damaged, Refused, OutputFault}
 use Rattle.voy_command.specs.declared.answer.Cause.{Cause}
 use Rattle.voy_command.specs.declared.answer.Which.TheVariants.{Recording}
-use Rattle.voy_command.specs.declared.side.Side.{Side}
-use Rattle.voy_command.specs.declared.side.Side.TheVariants.{Target, Source}
+use Rattle.voy_tables.specs.declared.change.Side.{Side}
+use Rattle.voy_tables.specs.declared.change.Side.TheVariants.{Target, Source}
 
 -- these bytes are the journal of a store with tables that have this text
 pub record HasStoreText (schema : List Table) (bytes text : List ℕ) : Type 0 where

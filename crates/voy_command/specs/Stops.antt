@@ -15,7 +15,7 @@ use Rattle.voy_command.specs.declared.answer.Answer.{Answer}
 use Rattle.voy_command.specs.declared.answer.Answer.TheVariants.{Done, Waiting, Shown, NoCommand, NoReading, Fault, NoMemory, Damaged, Invalid, Refused, OutputFault, TooLong, NotBuilt}
 use Rattle.voy_command.specs.declared.answer.Cause.{Cause}
 use Rattle.voy_command.specs.declared.answer.Which.TheVariants.{Recording}
-use Rattle.voy_command.specs.declared.side.Side.{Side}
+use Rattle.voy_tables.specs.declared.change.Side.{Side}
 
 -- an answer that what a dry run read gives, and that prints nothing
 abbrev pub is_refusal : Answer → Bool

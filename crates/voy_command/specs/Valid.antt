@@ -1,31 +1,23 @@
 -- When the files of a dry run state a valid stream, and what the dry run owes for one.
-use Rattle.std.specs.Prelude.{◌≡◌, ◌⊎◌, ℕ, Bool, false, List, [], ◌∷◌, ◌++◌, Option, None, Ok}
+use Rattle.std.specs.Prelude.{◌≡◌, ◌⊎◌, ℕ, Bool, false, List, Option, None, Ok, map}
 use Rattle.std.specs.List.{list_any}
 use Rattle.voy_disk.specs.Files.{Files, IfTold}
+use Rattle.voy_event.specs.Events.{changes_in, ends_part}
 use Rattle.voy_event.specs.declared.event.Event.{Event}
-use Rattle.voy_event.specs.declared.event.What.{What}
-use Rattle.voy_event.specs.declared.event.What.TheVariants as what
 use Rattle.voy_schema.specs.declared.table.Table.{Table}
 use Rattle.voy_tables.specs.Changes.{RowChange, row_change}
 use Rattle.voy_tables.specs.Tables.{IsValid, no_rows}
 use Rattle.voy_command.specs.DryRun.{end_answer, outcome_of}
 use Rattle.voy_command.specs.Files.{file_bytes, metadata_name, schema_name, segment_name}
 use Rattle.voy_command.specs.Recorded.{recorded_schema}
-use Rattle.voy_command.specs.Segment.{Queue, event_lines, is_cutover, queue_of}
+use Rattle.voy_command.specs.Segment.{Queue, event_lines, queue_of}
 use Rattle.voy_command.specs.Stops.{is_refusal}
 use Rattle.voy_command.specs.declared.answer.Answer.{Answer}
 use Rattle.voy_command.specs.declared.answer.Answer.TheVariants.{NoMemory}
 
--- the change of a row that an event states; a cutover states none
-abbrev pub changes_in : List Table → What → List RowChange
-changes_in schema (what.Change c) = row_change schema c ∷ []
-changes_in schema what.CutoverTarget = []
-changes_in schema what.CutoverSource = []
-
 -- the changes of rows that events state, one after the other
 abbrev pub changes_of : List Table → List Event → List RowChange
-changes_of schema [] = []
-changes_of schema (e ∷ events) = changes_in schema e.what ++ changes_of schema events
+changes_of schema events = map (row_change schema) (changes_in events)
 
 -- the queue that a segment states
 abbrev pub segment_queue : List Table → Option (List ℕ) → Queue
@@ -33,7 +25,7 @@ segment_queue schema segment = queue_of schema 1 false (event_lines segment)
 
 -- whether a segment states the cutover event
 abbrev pub reaches_cutover : List Table → Option (List ℕ) → Bool
-reaches_cutover schema segment = list_any is_cutover (segment_queue schema segment).events
+reaches_cutover schema segment = list_any ends_part (segment_queue schema segment).events
 
 -- a valid segment: it is absent, or each of its lines is the next event, and the changes are valid from no rows
 pub record IsValidSegment (schema : List Table) (segment : Option (List ℕ)) : Type 0 where

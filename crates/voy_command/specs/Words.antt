@@ -1,8 +1,8 @@
 -- What the words of a command ask for.
 use Rattle.std.specs.Prelude.{◌≡◌, ℕ, Bool, List, [], ◌∷◌, ◌++◌, ◌&&◌, Option, Some, None, codes, if◌then◌else◌}
 use Rattle.std.specs.Str.{bytes_eq}
-use Rattle.voy_command.specs.declared.side.Side.{Side}
-use Rattle.voy_command.specs.declared.side.Side.TheVariants.{Target, Source}
+use Rattle.voy_tables.specs.declared.change.Side.{Side}
+use Rattle.voy_tables.specs.declared.change.Side.TheVariants.{Target, Source}
 use Rattle.voy_command.specs.declared.words.Asked.{Asked}
 use Rattle.voy_command.specs.declared.words.Asked.TheVariants.{DryRun, Show, NoReading, NoCommand}
 use Rattle.voy_command.specs.declared.words.Phrase.TheVariants as phrase

@@ -3,13 +3,13 @@ ghost use Rattle.voy_disk.specs.Written.{GotFront};
 ghost use Rattle.voy_command.specs.Answer.{cause_text, disk_name, disk_of, phrase_text, status_of, text_on_err};
 ghost use Rattle.voy_command.specs.Stops.{disk_stop};
 
-use crate::side::Side;
 use crate::words::Phrase;
 use itoa::Buffer;
 use std::alloc::{AllocError, Global};
 use voy_disk::{DiskError, Sink, write_all};
 use voy_event::LineWhy;
 use voy_schema::{Bytes, SchemaWhy};
+use voy_tables::Side;
 
 /// A disk of the place.
 #[derive(Clone, Copy, Debug, PartialEq, Eq)]
@@ -21,6 +21,16 @@ pub enum Which {
 }
 
 impl Which {
+    /// The disk of this side's store.
+    pub fn of_store(side: Side) -> Which
+        ensures { result ≡ disk_of side }
+    {
+        match side {
+            Side::Target => Which::Target,
+            Side::Source => Which::Source,
+        }
+    }
+
     /// The name of its folder.
     #[tactic(auto, unfolding(crate::specs::Answer::disk_name))]
     fn name(self) -> &'static str
@@ -185,7 +195,7 @@ fn append_damage(side: Side, offset: u64, to: &mut Bytes) -> Result<(), AllocErr
 {
     append_between(
         b"voyager: damaged: ",
-        side.disk().name(),
+        Which::of_store(side).name(),
         b"/store.journal at ",
         to,
     )?;

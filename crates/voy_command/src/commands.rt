@@ -5,10 +5,10 @@ ghost use Rattle.voy_command.specs.Show.{IsShow};
 use crate::answer::Answer;
 use crate::dry_run::dry_run;
 use crate::show::show;
-use crate::side::Side;
 use crate::words::{Asked, read_words};
 use std::alloc::Global;
 use voy_disk::{Disk, Place, Sink};
+use voy_tables::Side;
 
 /// Does the one command that these words ask for, prints its text to `out` and a refusal to `err`, and
 /// gives the exit status.

@@ -3,7 +3,8 @@ ghost use Rattle.voy_event.specs.LawfulEvent.{IsLawful};
 ghost use Rattle.voy_tables.specs.Changes.{is_well_formed};
 ghost use Rattle.voy_tables.specs.Lists.{empty_lists};
 ghost use Rattle.voy_command.specs.DryRun.{line_refusal};
-ghost use Rattle.voy_command.specs.Segment.{event_misfit, is_by_source, lists_with};
+ghost use Rattle.voy_event.specs.Events.{is_by_source};
+ghost use Rattle.voy_command.specs.Folding.{event_misfit, lists_with};
 
 use crate::answer::{Answer, Cause};
 use std::alloc::{AllocError, Global};

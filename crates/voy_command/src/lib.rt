@@ -22,12 +22,10 @@ mod print;
 mod recorded;
 mod segment;
 mod show;
-mod side;
 mod words;
 
 pub use answer::{Answer, Cause, Which};
 pub use commands::{command, run};
 pub use host::start;
 pub use laws::{stores_have_one_text, valid_streams_fold};
-pub use side::Side;
 pub use words::{Asked, Phrase};

@@ -8,7 +8,8 @@ ghost use Rattle.voy_command.specs.DryRun.{outcome_of_lines, refusing};
 ghost use Rattle.voy_disk.specs.Files.{IfTold};
 ghost use Rattle.voy_command.specs.Files.{file_bytes, segment_name};
 ghost use Rattle.voy_command.specs.Folding.{lines_left, outcome_from, unread_lines};
-ghost use Rattle.voy_command.specs.Segment.{closing_line, event_lines, is_empty, without_closing};
+ghost use Rattle.voy_event.specs.Events.{closing_line};
+ghost use Rattle.voy_command.specs.Segment.{event_lines, is_empty, without_closing};
 ghost use Rattle.voy_command.specs.Stops.{StopsBy};
 
 use crate::answer::{Answer, Which, disk_stop};
@@ -16,12 +17,9 @@ use crate::fold::Fold;
 use crate::names::segment_file;
 use std::alloc::Global;
 use voy_disk::Disk;
-use voy_event::MAX_EVENT_LINE_BYTES;
+use voy_event::{MAX_EVENT_LINE_BYTES, is_closing_line};
 use voy_files::{Found, LineReader};
 use voy_schema::Schema;
-
-/// The line that closes a segment.
-const CLOSING_LINE: &[u8] = b"\\.";
 
 /// The fold of the segment's events into tables of `schema`; an absent segment has none. The segment is
 /// read in pieces, and one line of it is held.
@@ -143,11 +141,4 @@ fn closes<D: Disk>(export: &mut D, reader: &mut LineReader) -> Result<bool, Answ
         Ok(ended) => Ok(ended),
         Err(error) => Err(disk_stop(Which::Export, error)),
     }
-}
-
-#[tactic(auto, unfolding(crate::specs::Segment::closing_line))]
-fn is_closing_line(line: &[u8]) -> bool
-    ensures { result ≡ bytes_eq line.now closing_line }
-{
-    line == CLOSING_LINE
 }

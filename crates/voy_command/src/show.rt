@@ -8,16 +8,16 @@ ghost use Rattle.voy_txn.specs.History.{History};
 ghost use Rattle.voy_command.specs.Show.{HasStoreText, KeepsStore, MustShow, Shows};
 ghost use Rattle.voy_command.specs.Stops.{StopsStore, open_stop};
 
-use crate::answer::Answer;
+use crate::answer::{Answer, Which};
 use crate::laws::stores_have_one_text;
 use crate::print::print_text;
 use crate::recorded::read_schema;
-use crate::side::Side;
 use std::alloc::Global;
 use voy_disk::{Disk, Sink};
 use voy_report::show_text;
 use voy_schema::{Bytes, Copies, Schema};
 use voy_store::{JournalStore, OpenError};
+use voy_tables::Side;
 use voy_txn::Store;
 
 /// Opens the store on the disk of that side by the recorded schema, which makes its journal where there is
@@ -95,7 +95,7 @@ fn open_stop(side: Side, why: OpenError) -> Answer
     ensures { result ≡ open_stop side why }
 {
     match why {
-        OpenError::Fault => Answer::Fault(side.disk()),
+        OpenError::Fault => Answer::Fault(Which::of_store(side)),
         OpenError::Damaged { offset } => Answer::Damaged { side, offset },
         OpenError::NoMemory => Answer::NoMemory,
     }

@@ -1,7 +1,7 @@
 ghost use Rattle.std.specs.Prelude.{◌≡◌, map, string_bytes};
 ghost use Rattle.voy_command.specs.Words.{asked_after_import, asked_after_show, asked_by, asked_to_import, asked_to_show, is_import_to_target};
 
-use crate::side::Side;
+use voy_tables::Side;
 
 /// The words that name a command.
 #[derive(Clone, Copy, Debug, PartialEq, Eq)]

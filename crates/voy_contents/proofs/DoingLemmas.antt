@@ -24,7 +24,7 @@ use Rattle.voy_tables.specs.declared.change.Change.{Change}
 use Rattle.voy_tables.specs.declared.change.Change.TheVariants.{Insert, Update, Delete}
 use Rattle.voy_tables.specs.declared.change.Misfit.{Misfit}
 use Rattle.voy_txn.specs.Commits.{HasReason}
-use Rattle.voy_txn.specs.Items.{first_misfit, first_of}
+use Rattle.voy_tables.specs.Folds.{first_misfit, first_of}
 use Rattle.voy_txn.specs.declared.store_error.StoreError.{StoreError}
 use Rattle.std.proofs.lemmas.List.{drop_all}
 

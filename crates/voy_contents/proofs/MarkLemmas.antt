@@ -31,7 +31,7 @@ use Rattle.voy_tables.specs.Lists.{empty_lists}
 use Rattle.voy_tables.specs.declared.change.Change.{Change}
 use Rattle.voy_txn.specs.Contents.{contents_of}
 use Rattle.voy_txn.specs.History.{counted, last_vsn, vsns_after}
-use Rattle.voy_txn.specs.Items.{change_of}
+use Rattle.voy_event.specs.Events.{change_in}
 use Rattle.voy_txn.specs.declared.txn.Txn.TheVariants.{Batch, Events}
 
 -- so many tables with no batches and no changes
@@ -201,9 +201,9 @@ added_then first rest a b c one more = record {
 
 -- the changes of the events so far were counted: once the others are, all are
 pub record AreCountedTo (items : List Event) (old : List TableMarks) (at : ℕ) (tables : List TableMarks) : Type 0 where
-  pub below : are_below (length tables) (filter_map (λ (item : Event). change_of item.what) (drop at items)) ≡ true
-  pub then_all : (last : List TableMarks) → AddsChanges (filter_map (λ (item : Event). change_of item.what) (drop at items)) tables last
-      → AddsChanges (filter_map (λ (item : Event). change_of item.what) items) old last
+  pub below : are_below (length tables) (filter_map (λ (item : Event). change_in item.what) (drop at items)) ≡ true
+  pub then_all : (last : List TableMarks) → AddsChanges (filter_map (λ (item : Event). change_in item.what) (drop at items)) tables last
+      → AddsChanges (filter_map (λ (item : Event). change_in item.what) items) old last
 
 -- what holds of changes holds of the first and of the others
 below_parts : (count : ℕ) (first : Option Change) (rest : List Change) → are_below count (cons_option first rest) ≡ true → (are_below count (cons_option first []) ≡ true) × (are_below count rest ≡ true)
@@ -213,23 +213,23 @@ below_parts count (Some c) rest below =
     (and_from (nat_lt (table_of c) count) true parts.0 refl, parts.1)
 
 pub change_below : (items : List Event) (old : List TableMarks) (at : ℕ) (tables : List TableMarks) (item : Event) → AreCountedTo items old at tables → slice_get items at ≡ Some item
-    → are_below (length tables) (cons_option (change_of item.what) []) ≡ true
+    → are_below (length tables) (cons_option (change_in item.what) []) ≡ true
 change_below items old at tables item counted found =
-    (below_parts (length tables) (change_of item.what) _ (ap (λ left. are_below (length tables) (filter_map (λ (x : Event). change_of x.what) left)) (sym (drop_at items at item found)) ∙ counted.below)).0
+    (below_parts (length tables) (change_in item.what) _ (ap (λ left. are_below (length tables) (filter_map (λ (x : Event). change_in x.what) left)) (sym (drop_at items at item found)) ∙ counted.below)).0
 
 pub one_counted : (items : List Event) (old : List TableMarks) (at : ℕ) (tables after : List TableMarks) (item : Event) → AreCountedTo items old at tables → slice_get items at ≡ Some item
-    → AddsChanges (cons_option (change_of item.what) []) tables after → AreCountedTo items old (at + 1) after
+    → AddsChanges (cons_option (change_in item.what) []) tables after → AreCountedTo items old (at + 1) after
 one_counted items old at tables after item counted found one = record {
-  below = ap (λ n. are_below n (filter_map (λ (x : Event). change_of x.what) (drop (at + 1) items))) one.as_many
-      ∙ (below_parts (length tables) (change_of item.what) _ (ap (λ left. are_below (length tables) (filter_map (λ (x : Event). change_of x.what) left)) (sym (drop_at items at item found)) ∙ counted.below)).1;
-  then_all = λ last more. counted.then_all last (subst (λ left. AddsChanges (filter_map (λ (x : Event). change_of x.what) left) tables last) (sym (drop_at items at item found))
-      (added_then (change_of item.what) (filter_map (λ (x : Event). change_of x.what) (drop (at + 1) items)) tables after last one more));
+  below = ap (λ n. are_below n (filter_map (λ (x : Event). change_in x.what) (drop (at + 1) items))) one.as_many
+      ∙ (below_parts (length tables) (change_in item.what) _ (ap (λ left. are_below (length tables) (filter_map (λ (x : Event). change_in x.what) left)) (sym (drop_at items at item found)) ∙ counted.below)).1;
+  then_all = λ last more. counted.then_all last (subst (λ left. AddsChanges (filter_map (λ (x : Event). change_in x.what) left) tables last) (sym (drop_at items at item found))
+      (added_then (change_in item.what) (filter_map (λ (x : Event). change_in x.what) (drop (at + 1) items)) tables after last one more));
 }
 
 pub all_counted : (items : List Event) (old : List TableMarks) (at : ℕ) (tables : List TableMarks) → AreCountedTo items old at tables → length items ≤ at
-    → AddsChanges (filter_map (λ (item : Event). change_of item.what) items) old tables
+    → AddsChanges (filter_map (λ (item : Event). change_in item.what) items) old tables
 all_counted items old at tables counted past =
-    counted.then_all tables (subst (λ left. AddsChanges (filter_map (λ (x : Event). change_of x.what) left) tables tables) (sym (drop_all at items past)) (nothing_added tables))
+    counted.then_all tables (subst (λ left. AddsChanges (filter_map (λ (x : Event). change_in x.what) left) tables tables) (sym (drop_all at items past)) (nothing_added tables))
 
 or_nothing : (b : Bool) → (b || false) ≡ b
 or_nothing true = refl
@@ -314,7 +314,7 @@ batch_noted lists marks table number rows before after within was batches batch_
 -- events are noted
 pub events_noted : (lists : List (List (List Value))) (marks after : Marks) (channel : ℕ) (items : List Event) → after.loaded ≡ marks.loaded
     → ((c : ℕ) → vsns_in after.vsns c ≡ vsns_after (vsns_in marks.vsns) (Events channel items) c)
-    → AddsChanges (filter_map (λ (item : Event). change_of item.what) items) marks.tables after.tables
+    → AddsChanges (filter_map (λ (item : Event). change_in item.what) items) marks.tables after.tables
     → says lists after ≡ with_marks (says lists marks) (Events channel items)
 events_noted lists marks after channel items loaded vsns adds = λ i. record {
   tables = lists;

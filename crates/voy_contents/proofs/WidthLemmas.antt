@@ -17,7 +17,8 @@ use Rattle.voy_tables.specs.RowText.{row_line, row_lines}
 use Rattle.voy_tables.specs.declared.change.Change.{Change}
 use Rattle.voy_tables.specs.declared.change.Change.TheVariants.{Insert}
 use Rattle.voy_txn.specs.Commits.{max_payload_bytes}
-use Rattle.voy_txn.specs.Items.{change_of, inserts_from, items_of}
+use Rattle.voy_txn.specs.Items.{inserts_from, items_of}
+use Rattle.voy_event.specs.Events.{change_in}
 use Rattle.voy_txn.specs.LawfulTxn.{AreRowsOf, IsLawfulTxn}
 use Rattle.voy_txn.specs.LoadLaws.{items_are_well_formed}
 use Rattle.voy_txn.specs.Payload.{number, payload_of, rows_part, sized}
@@ -72,9 +73,9 @@ load_long : (schema : List Table) (tables : List (List (List Value))) → length
 unfolding payload_of
 load_long schema tables = omega (arith, length-append (number (length tables)) (flat_map rows_part tables))
 
-changes_long : (items : List Event) → length (filter_map (λ (item : Event). change_of item.what) items) ≤ length items
+changes_long : (items : List Event) → length (filter_map (λ (item : Event). change_in item.what) items) ≤ length items
 changes_long [] = omega arith
-changes_long (item ∷ items) = by (change_of item.what) (filter_map (λ (x : Event). change_of x.what) items) (changes_long items) where
+changes_long (item ∷ items) = by (change_in item.what) (filter_map (λ (x : Event). change_in x.what) items) (changes_long items) where
   by : (o : Option Change) (rest : List Change) → length rest ≤ length items → length (cons_option o rest) ≤ suc (length items)
   by None rest long = omega (arith, long)
   by (Some c) rest long = omega (arith, long)

@@ -6,7 +6,7 @@ ghost use Rattle.voy_contents.specs.declared.way_back.WayBack.{WayBack};
 ghost use Rattle.voy_tables.specs.Changes.{is_well_formed, row_change};
 ghost use Rattle.voy_tables.specs.Lists.{empty_lists, fold_lists};
 ghost use Rattle.voy_txn.specs.Commits.{HasReason};
-ghost use Rattle.voy_txn.specs.Items.{first_misfit};
+ghost use Rattle.voy_tables.specs.Folds.{first_misfit};
 ghost use Rattle.voy_txn.specs.declared.store_error.StoreError.TheVariants.{Fault};
 
 use crate::doing::do_all;

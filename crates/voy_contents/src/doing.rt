@@ -7,7 +7,7 @@ ghost use Rattle.voy_tables.specs.declared.change.Misfit.{Misfit};
 ghost use Rattle.voy_contents.specs.WayBack.{LeadsTo};
 ghost use Rattle.voy_contents.specs.declared.way_back.WayBack.{WayBack};
 ghost use Rattle.voy_txn.specs.Commits.{HasReason};
-ghost use Rattle.voy_txn.specs.Items.{first_misfit, first_of};
+ghost use Rattle.voy_tables.specs.Folds.{first_misfit, first_of};
 ghost use Rattle.voy_txn.specs.declared.store_error.StoreError.TheVariants.{Fault};
 
 use crate::preparing::prepare;

@@ -3,7 +3,8 @@ ghost use Rattle.std.specs.List.{cons_option, filter_map};
 ghost use Rattle.voy_event.specs.declared.event.Event.{Event};
 ghost use Rattle.voy_contents.specs.Loads.{width_of};
 ghost use Rattle.voy_tables.specs.declared.change.Change.{Change};
-ghost use Rattle.voy_txn.specs.Items.{change_of, inserts_from, items_of};
+ghost use Rattle.voy_txn.specs.Items.{inserts_from, items_of};
+ghost use Rattle.voy_event.specs.Events.{change_in};
 
 use std::alloc::{AllocError, Global};
 use voy_event::{Events, What};
@@ -47,7 +48,7 @@ fn push_inserts(table: u32, rows: &Rows, to: &mut Items<Change>) -> Result<(), A
 }
 
 fn push_changes(events: &Events, to: &mut Items<Change>) -> Result<(), AllocError>
-    ensures { OnOk result (to.new ≡ to.old ++ filter_map (λ (item : Event). change_of item.what) events.now) }
+    ensures { OnOk result (to.new ≡ to.old ++ filter_map (λ (item : Event). change_in item.what) events.now) }
 {
     for event in events.as_slice() {
         push_change(&event.what, to)?;
@@ -56,7 +57,7 @@ fn push_changes(events: &Events, to: &mut Items<Change>) -> Result<(), AllocErro
 }
 
 fn push_change(what: &What, to: &mut Items<Change>) -> Result<(), AllocError>
-    ensures { OnOk result (to.new ≡ to.old ++ cons_option (change_of what.now) []) }
+    ensures { OnOk result (to.new ≡ to.old ++ cons_option (change_in what.now) []) }
 {
     match what {
         What::Change(change) => to.push(change.copy()?),

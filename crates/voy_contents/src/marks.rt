@@ -11,7 +11,7 @@ ghost use Rattle.voy_tables.specs.Lists.{empty_lists};
 ghost use Rattle.voy_txn.specs.Commits.{is_next};
 ghost use Rattle.voy_txn.specs.Contents.{contents_of};
 ghost use Rattle.voy_txn.specs.History.{vsns_after};
-ghost use Rattle.voy_txn.specs.Items.{change_of};
+ghost use Rattle.voy_event.specs.Events.{change_in};
 ghost use Rattle.voy_txn.specs.declared.txn.Txn.{Txn};
 
 use crate::slots::Slots;
@@ -154,8 +154,8 @@ fn raise(vsns: &mut Slots<u32, u64>, channel: u32, items: &[Event])
 
 /// Counts the changes of these events, each for its table.
 fn count_changes(tables: &mut Items<TableMarks>, items: &[Event])
-    requires { are_below (length tables.old) (filter_map (λ (item : Event). change_of item.what) items.now) ≡ true }
-    ensures { AddsChanges (filter_map (λ (item : Event). change_of item.what) items.now) tables.old tables.new }
+    requires { are_below (length tables.old) (filter_map (λ (item : Event). change_in item.what) items.now) ≡ true }
+    ensures { AddsChanges (filter_map (λ (item : Event). change_in item.what) items.now) tables.old tables.new }
 {
     for item in items {
         count_change(tables, &item.what);
@@ -163,8 +163,8 @@ fn count_changes(tables: &mut Items<TableMarks>, items: &[Event])
 }
 
 fn count_change(tables: &mut Items<TableMarks>, what: &What)
-    requires { are_below (length tables.old) (cons_option (change_of what.now) []) ≡ true }
-    ensures { AddsChanges (cons_option (change_of what.now) []) tables.old tables.new }
+    requires { are_below (length tables.old) (cons_option (change_in what.now) []) ≡ true }
+    ensures { AddsChanges (cons_option (change_in what.now) []) tables.old tables.new }
 {
     if let What::Change(change) = what {
         tables.item_mut(change.table() as usize).add_change();

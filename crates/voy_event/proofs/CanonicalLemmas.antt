@@ -3,7 +3,6 @@ use Rattle.std.proofs.Common.{◌≡◌, ℕ, zero, suc, ◌<◌, ◌≤◌, ◌
 use Rattle.std.proofs.lemmas.Bool.{and_from, and_parts, eqb-true, lt-ltb, or_cases}
 use Rattle.std.proofs.lemmas.Slice.Eq.{bytes_eq-Decides}
 use Rattle.std.proofs.lemmas.Str.{IsUtf8-from_is_utf8, IsUtf8-nil}
-use Rattle.std.specs.Char.{is_ascii_digit}
 use Rattle.std.specs.Cmp.Lexicographic.{slice_cmp}
 use Rattle.std.specs.List.{list_all}
 use Rattle.std.specs.Ordering.{is_lt, match_ordering, nat_cmp}
@@ -15,13 +14,13 @@ use Rattle.json.proofs.Printed.Utf8.{IsUtf8-are_ascii, are_ascii}
 use Rattle.serde_json.specs.Data.{Data, number, string, unsigned, Members, no_members, member, put, depth, members_depth}
 use Rattle.voy_json.specs.Canonical.{IsBefore, IsCanonical, MembersAreCanonical}
 use Rattle.voy_json.specs.CanonicalLaws.{MembersAreCanonical-put}
-use Rattle.voy_schema.specs.Lawful.{is_byte_of_name, is_first_of_name, is_name}
+use Rattle.voy_schema.specs.Lawful.{is_name}
 use Rattle.voy_schema.specs.LawfulLaws.{LawfulParts, list_all-at}
 use Rattle.voy_schema.specs.Rows.{has_lawful_values, is_lawful_row, text_of, value_at}
-use Rattle.voy_schema.specs.Values.{is_bigint, is_boolean, is_bytea, is_decimal, is_lawful_text, is_lawful_value, is_lower_hex, is_text}
+use Rattle.voy_schema.specs.TextLaws.{lawful_text_is_utf8, name_is_utf8}
+use Rattle.voy_schema.specs.Values.{is_lawful_text, is_lawful_value}
 use Rattle.voy_schema.specs.declared.table.Column.{Column}
 use Rattle.voy_schema.specs.declared.table.Kind.{Kind}
-use Rattle.voy_schema.specs.declared.table.Kind.TheVariants as kind
 use Rattle.voy_schema.specs.declared.table.Table.{Table}
 use Rattle.voy_schema.specs.declared.value.Value.{Value}
 use Rattle.voy_schema.specs.declared.value.Value.TheVariants.{Null, Text}
@@ -32,95 +31,19 @@ use Rattle.voy_tables.specs.declared.change.Role.TheVariants as exporter
 use Rattle.voy_event.specs.LineText.{after_data, before_data, change_data, cutover_data, key_data, keyed_row, op_text, row_data, value_data, with_columns, with_text, with_texts}
 use Rattle.voy_event.specs.Words.{text_of_role}
 
--- ---- texts of ASCII bytes
+-- ---- texts
 
-ascii_from : (p : ℕ → Bool) → ((x : ℕ) → p x ≡ true → x < 128) → (xs : List ℕ) → list_all p xs ≡ true → are_ascii xs ≡ true
-ascii_from p small [] all = refl
-ascii_from p small (x ∷ xs) all =
-    let parts = and_parts (p x) (list_all p xs) all in
-    and_from (nat_lt x 128) (are_ascii xs) (lt-ltb x 128 (small x parts.0)) (ascii_from p small xs parts.1)
+name_has_utf8 : (name : List ℕ) → is_name name ≡ true → IsUtf8 name
+name_has_utf8 name named = IsUtf8-from_is_utf8 name (name_is_utf8 name named)
 
-digit_is_small : (x : ℕ) → is_ascii_digit x ≡ true → x < 128
-digit_is_small x digit = let most = leb-true x 57 (and_parts (nat_le 48 x) (nat_le x 57) digit).1 in omega arith
-
-hex_is_small : (x : ℕ) → is_lower_hex x ≡ true → x < 128
-hex_is_small x hex = elim (or_cases (is_ascii_digit x) (nat_le 97 x && nat_le x 102) hex) [
-  | inl digit ↦ digit_is_small x digit
-  | inr letter ↦ let most = leb-true x 102 (and_parts (nat_le 97 x) (nat_le x 102) letter).1 in omega arith
-]
-
-first_is_small : (x : ℕ) → is_first_of_name x ≡ true → x < 128
-first_is_small x first = elim (or_cases (nat_le 97 x && nat_le x 122) (x == 95) first) [
-  | inl letter ↦ let most = leb-true x 122 (and_parts (nat_le 97 x) (nat_le x 122) letter).1 in omega arith
-  | inr underscore ↦ let same = eqb-true x 95 underscore in omega arith
-]
-
-byte_of_name_is_small : (x : ℕ) → is_byte_of_name x ≡ true → x < 128
-byte_of_name_is_small x byte = elim (or_cases (is_first_of_name x) (nat_le 48 x && nat_le x 57) byte) [
-  | inl first ↦ first_is_small x first
-  | inr digit ↦ digit_is_small x digit
-]
-
-pub name_is_utf8 : (name : List ℕ) → is_name name ≡ true → IsUtf8 name
-name_is_utf8 [] named = cc
-name_is_utf8 (b ∷ bs) named =
-    let parts = and_parts (is_first_of_name b) (list_all is_byte_of_name bs) (and_parts _ (nat_le (length (b ∷ bs)) 63) named).0 in
-    IsUtf8-are_ascii (b ∷ bs)
-    (and_from (nat_lt b 128) (are_ascii bs) (lt-ltb b 128 (first_is_small b parts.0)) (ascii_from is_byte_of_name byte_of_name_is_small bs parts.1))
-
-decimal_is_ascii : (bs : List ℕ) → is_decimal bs ≡ true → are_ascii bs ≡ true
-decimal_is_ascii [] digits = cc
-decimal_is_ascii (d ∷ ds) digits =
-    ascii_from is_ascii_digit digit_is_small (d ∷ ds) (and_parts (list_all is_ascii_digit (d ∷ ds)) (not (d == 48) || length ds == 0) digits).0
-
-bigint_is_ascii : (b : ℕ) (bs : List ℕ) (minus : Bool) (low high below : Bool) → (b == 45) ≡ minus
-    → cond minus (is_decimal bs && low && high) (is_decimal (b ∷ bs) && below) ≡ true → are_ascii (b ∷ bs) ≡ true
-bigint_is_ascii b bs true low high below is holds =
-    let same = eqb-true b 45 is in
-    and_from (nat_lt b 128) (are_ascii bs) (lt-ltb b 128 (omega arith))
-    (decimal_is_ascii bs (and_parts (is_decimal bs) low (and_parts (is_decimal bs && low) high holds).0).0)
-bigint_is_ascii b bs false low high below is holds = decimal_is_ascii (b ∷ bs) (and_parts (is_decimal (b ∷ bs)) below holds).0
-
-bigint_is_utf8 : (bs : List ℕ) → is_bigint bs ≡ true → IsUtf8 bs
-unfolding is_bigint
-bigint_is_utf8 [] holds = cc
-bigint_is_utf8 (b ∷ bs) holds = IsUtf8-are_ascii (b ∷ bs) (bigint_is_ascii b bs (b == 45) _ _ _ refl holds)
-
-boolean_is_utf8 : (bs : List ℕ) → is_boolean bs ≡ true → IsUtf8 bs
-unfolding is_boolean
-boolean_is_utf8 bs truth = elim (or_cases (bytes_eq bs (codes "t")) (bytes_eq bs (codes "f")) truth) [
-  | inl true_text ↦ subst IsUtf8 (sym ((bytes_eq-Decides bs (codes "t")).0 true_text)) (IsUtf8-are_ascii (codes "t") refl)
-  | inr false_text ↦ subst IsUtf8 (sym ((bytes_eq-Decides bs (codes "f")).0 false_text)) (IsUtf8-are_ascii (codes "f") refl)
-]
-
-bytea_is_utf8 : (bs : List ℕ) → is_bytea bs ≡ true → IsUtf8 bs
-unfolding is_bytea
-bytea_is_utf8 [] bytes = cc
-bytea_is_utf8 (a ∷ []) bytes = cc
-bytea_is_utf8 (a ∷ b ∷ digits) bytes =
-    let hex = and_parts ((a == 92) && (b == 120)) (list_all is_lower_hex digits) (and_parts _ _ bytes).0 in
-    let front = and_parts (a == 92) (b == 120) hex.0 in
-    let first = eqb-true a 92 front.0 in
-    let second = eqb-true b 120 front.1 in
-    IsUtf8-are_ascii (a ∷ b ∷ digits)
-    (and_from (nat_lt a 128) _ (lt-ltb a 128 (omega arith))
-    (and_from (nat_lt b 128) _ (lt-ltb b 128 (omega arith)) (ascii_from is_lower_hex hex_is_small digits hex.1)))
-
-text_is_utf8 : (bs : List ℕ) → is_text bs ≡ true → IsUtf8 bs
-unfolding is_text
-text_is_utf8 bs text = IsUtf8-from_is_utf8 bs (and_parts (is_utf8 bs) _ text).0
-
-lawful_text_is_utf8 : (k : Kind) (bs : List ℕ) → is_lawful_text k bs ≡ true → IsUtf8 bs
-lawful_text_is_utf8 kind.Text bs lawful = text_is_utf8 bs lawful
-lawful_text_is_utf8 kind.Bigint bs lawful = bigint_is_utf8 bs lawful
-lawful_text_is_utf8 kind.Boolean bs lawful = boolean_is_utf8 bs lawful
-lawful_text_is_utf8 kind.Bytea bs lawful = bytea_is_utf8 bs lawful
+text_has_utf8 : (k : Kind) (bs : List ℕ) → is_lawful_text k bs ≡ true → IsUtf8 bs
+text_has_utf8 k bs lawful = IsUtf8-from_is_utf8 bs (lawful_text_is_utf8 k bs lawful)
 
 -- ---- rows and keys
 
 value_is_canonical : (k : Kind) (v : Value) → is_lawful_value k v ≡ true → IsCanonical (value_data v)
 value_is_canonical k Null lawful = tt
-value_is_canonical k (Text t) lawful = lawful_text_is_utf8 k t lawful
+value_is_canonical k (Text t) lawful = text_has_utf8 k t lawful
 
 columns_are_canonical : (cs : List Column) (row : List Value) (ms : Members) → list_all (λ (c : Column). is_name c.name) cs ≡ true
     → has_lawful_values cs row ≡ true → MembersAreCanonical ms → MembersAreCanonical (with_columns cs row ms)
@@ -130,11 +53,11 @@ columns_are_canonical (c ∷ cs) (v ∷ vs) ms named lawful members =
     let names = and_parts (is_name c.name) (list_all (λ (d : Column). is_name d.name) cs) named in
     let values = and_parts (is_lawful_value c.kind v) (has_lawful_values cs vs) lawful in
     columns_are_canonical cs vs (put c.name (value_data v) ms) names.1 values.1
-    (MembersAreCanonical-put c.name (value_data v) ms (name_is_utf8 c.name names.0) (value_is_canonical c.kind v values.0) members)
+    (MembersAreCanonical-put c.name (value_data v) ms (name_has_utf8 c.name names.0) (value_is_canonical c.kind v values.0) members)
 
 value_text_is_utf8 : (k : Kind) (v : Value) → is_lawful_value k v ≡ true → IsUtf8 (text_of v)
 value_text_is_utf8 k Null lawful = IsUtf8-nil
-value_text_is_utf8 k (Text t) lawful = lawful_text_is_utf8 k t lawful
+value_text_is_utf8 k (Text t) lawful = text_has_utf8 k t lawful
 
 text_at_is_utf8 : (cs : List Column) (row : List Value) (place : ℕ) → has_lawful_values cs row ≡ true → IsUtf8 (text_of (value_at row place))
 text_at_is_utf8 [] [] place lawful = IsUtf8-nil
@@ -148,7 +71,7 @@ with_text_is_canonical : (cs : List Column) (place : ℕ) (o : Option Column) (t
     → list_all (λ (c : Column). is_name c.name) cs ≡ true → IsUtf8 text → MembersAreCanonical ms → MembersAreCanonical (with_text o text ms)
 with_text_is_canonical cs place None text ms is named utf8 members = members
 with_text_is_canonical cs place (Some c) text ms is named utf8 members =
-    MembersAreCanonical-put c.name (string text) ms (name_is_utf8 c.name (list_all-at (λ (d : Column). is_name d.name) cs place c named is)) utf8 members
+    MembersAreCanonical-put c.name (string text) ms (name_has_utf8 c.name (list_all-at (λ (d : Column). is_name d.name) cs place c named is)) utf8 members
 
 texts_are_canonical : (t : Table) (row : List Value) (places : List ℕ) (ms : Members) → list_all (λ (c : Column). is_name c.name) t.columns ≡ true
     → has_lawful_values t.columns row ≡ true → MembersAreCanonical ms → MembersAreCanonical (with_texts t row places ms)
@@ -232,8 +155,8 @@ change_is_canonical t vsn role c parts fits lawful =
     (member_is_canonical (codes "fields") (after_data t c) from_key refl refl (after_is_canonical t c parts lawful)
     (member_is_canonical (codes "key") (key_data t (keyed_row c)) from_op refl refl key
     (member_is_canonical (codes "op") (string (op_text c)) from_schema refl refl (op_is_utf8 c)
-    (member_is_canonical (codes "schema_name") (string t.schema_name) from_table refl refl (name_is_utf8 t.schema_name parts.schema_name)
-    (member_is_canonical (codes "table_name") (string t.table_name) from_vsn refl refl (name_is_utf8 t.table_name parts.table_name)
+    (member_is_canonical (codes "schema_name") (string t.schema_name) from_table refl refl (name_has_utf8 t.schema_name parts.schema_name)
+    (member_is_canonical (codes "table_name") (string t.table_name) from_vsn refl refl (name_has_utf8 t.table_name parts.table_name)
     (member_is_canonical (codes "vsn") (number (unsigned vsn)) no_members refl refl fits tt)))))))
 
 pub cutover_is_canonical : (op : List ℕ) (vsn : ℕ) (role : Role) → IsUtf8 op → vsn < 2 ^ 64 → IsCanonical (cutover_data op vsn role)

@@ -3,3 +3,4 @@ pub mod MemberLemmas
 pub mod KeyLemmas
 pub mod CanonicalLemmas
 pub mod ReadBack
+pub mod LineLemmas

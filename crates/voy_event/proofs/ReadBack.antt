@@ -191,7 +191,7 @@ table_reads tables place t vsn role c lawful stands =
 short_change : (c : Change) → has_long_row c ≡ false → within_limit (Some c) ≡ Ok c
 short_change c short = rw short refl
 
-belongs_to : (tables : List Table) (t : Table) (c : Change) → slice_get tables (table_of c) ≡ Some t → is_well_formed tables c ≡ true → BelongsTo t c
+pub belongs_to : (tables : List Table) (t : Table) (c : Change) → slice_get tables (table_of c) ≡ Some t → is_well_formed tables c ≡ true → BelongsTo t c
 belongs_to tables t (change.Insert table after) stands formed = subst (λ o. is_row_of o after ≡ true) stands formed
 belongs_to tables t (change.Update table before after) stands formed =
     let o = slice_get tables table in
@@ -201,7 +201,7 @@ belongs_to tables t (change.Update table before after) stands formed =
     (subst (λ o. is_row_of o before ≡ true) stands rows.0, subst (λ o. is_row_of o after ≡ true) stands rows.1, (same_key-decides _ _).0 keys)
 belongs_to tables t (change.Delete table before) stands formed = subst (λ o. is_row_of o before ≡ true) stands formed
 
-rows_of : (t : Table) (c : Change) → BelongsTo t c → RowsAreLawful t c
+pub rows_of : (t : Table) (c : Change) → BelongsTo t c → RowsAreLawful t c
 rows_of t (change.Insert table after) belongs = belongs
 rows_of t (change.Update table before after) belongs = (belongs.0, belongs.1)
 rows_of t (change.Delete table before) belongs = belongs
@@ -263,7 +263,7 @@ line_of_data tables d e short bytes read =
     ∙ ap (λ b. if b then Err why.TooLong else document_reading tables (data_of_bytes (compact_text d))) (le-ltb max_event_line_bytes (length (compact_text d)) short)
     ∙ ap (document_reading tables) bytes ∙ read
 
-no_table : (tables : List Table) (c : Change) → is_well_formed tables c ≡ true → slice_get tables (table_of c) ≡ None → ⊥
+pub no_table : (tables : List Table) (c : Change) → is_well_formed tables c ≡ true → slice_get tables (table_of c) ≡ None → ⊥
 no_table tables (change.Insert table after) formed none = let row = subst (λ o. is_row_of o after ≡ true) none formed in cc
 no_table tables (change.Update table before after) formed none =
     let rows = (and_parts (is_row_of (slice_get tables table) before && is_row_of (slice_get tables table) after) _ formed).0 in

@@ -4,7 +4,7 @@ use Rattle.std.specs.List.{list_all}
 use Rattle.std.specs.Option.{ok_or, option_map_or}
 use Rattle.std.specs.Str.{bytes_eq}
 use Rattle.std.proofs.Common.{ap, sym, subst, ◌∙◌}
-use Rattle.std.proofs.lemmas.Bool.{and_from, and_parts, leb-true, ltb-true}
+use Rattle.std.proofs.lemmas.Bool.{and_from, and_parts, leb-true, ltb-false, ltb-true}
 use Rattle.std.proofs.lemmas.Cmp.{nat_list_eq_equiv, lists_equiv}
 use Rattle.std.proofs.lemmas.Slice.Eq.{bytes_eq-Decides}
 use Rattle.serde_json.specs.Data.{Data}
@@ -277,6 +277,16 @@ document_is_lawful tables (Some d) e read = kind_is_lawful tables d (event_kind 
 pub event_is_lawful : (tables : List Table) (bytes : List ℕ) (e : Event) → line_reading tables bytes ≡ Ok e → IsLawful tables e
 event_is_lawful tables bytes e read =
     document_is_lawful tables (data_of_bytes bytes) e (past_test (nat_lt max_event_line_bytes (length bytes)) why.TooLong _ e (sym (line_is_in_turn tables bytes) ∙ read))
+
+-- a line that was read is within its limit
+pub line_is_short : (tables : List Table) (line : List ℕ) (e : Event) → line_reading tables line ≡ Ok e → length line ≤ max_event_line_bytes
+line_is_short tables line e read =
+    by_length (nat_lt max_event_line_bytes (length line)) refl (sym (line_is_in_turn tables line) ∙ read)
+  where
+    by_length : (b : Bool) → nat_lt max_event_line_bytes (length line) ≡ b
+        → (if b then Err why.TooLong else document_reading tables (data_of_bytes line)) ≡ Ok e → length line ≤ max_event_line_bytes
+    by_length true long never = cc
+    by_length false short same = ltb-false max_event_line_bytes (length line) short
 
 -- ---- an event that was read may be written
 

@@ -1,3 +1,4 @@
+pub mod Events
 pub mod Words
 pub mod Refusal
 pub mod Fields

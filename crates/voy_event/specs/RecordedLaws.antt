@@ -1,5 +1,6 @@
--- What a reading of a recorded line gives: a change that is well formed for the schema.
-use Rattle.std.specs.Prelude.{◌≡◌, ℕ, List, Option, Some, None, Result, Ok, Err, codes, length, nat_lt, refl}
+-- What a reading of a recorded line gives: a change that is well formed for the schema, from a line within its limit.
+use Rattle.std.specs.Prelude.{◌≡◌, ◌≤◌, ℕ, Bool, true, false, List, Option, Some, None, Result, Ok, Err, codes, length, nat_lt, refl, if◌then◌else◌}
+use Rattle.std.proofs.lemmas.Bool.{ltb-false}
 use Rattle.std.proofs.Common.{subst, sym, ◌∙◌}
 use Rattle.serde_json.specs.Data.{Data}
 use Rattle.voy_json.specs.Document.{data_of_bytes, is_object}
@@ -47,3 +48,13 @@ recorded_document_is_lawful tables (Some d) r read = op_is_lawful tables d (chan
 pub recorded_is_lawful : (tables : List Table) (bytes : List ℕ) (r : Recorded) → recorded_reading tables bytes ≡ Ok r → IsLawfulChange tables r.change
 recorded_is_lawful tables bytes r read =
     recorded_document_is_lawful tables (data_of_bytes bytes) r (past_test (nat_lt max_recorded_line_bytes (length bytes)) why.TooLong _ r (sym (recorded_is_in_turn tables bytes) ∙ read))
+
+-- a recorded line that was read is within its limit
+pub recorded_line_is_short : (tables : List Table) (line : List ℕ) (r : Recorded) → recorded_reading tables line ≡ Ok r → length line ≤ max_recorded_line_bytes
+recorded_line_is_short tables line r read =
+    by_length (nat_lt max_recorded_line_bytes (length line)) refl (sym (recorded_is_in_turn tables line) ∙ read)
+  where
+    by_length : (b : Bool) → nat_lt max_recorded_line_bytes (length line) ≡ b
+        → (if b then Err why.TooLong else recorded_document_reading tables (data_of_bytes line)) ≡ Ok r → length line ≤ max_recorded_line_bytes
+    by_length true long never = cc
+    by_length false short same = ltb-false max_recorded_line_bytes (length line) short

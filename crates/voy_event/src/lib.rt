@@ -24,8 +24,8 @@ mod words;
 
 pub use event::{Event, Events, What};
 pub use event_line::read_line;
-pub use laws::events_read_back;
-pub use limits::{MAX_EVENT_LINE_BYTES, MAX_RECORDED_LINE_BYTES};
+pub use laws::{events_read_back, lines_stand_in_segments};
+pub use limits::{CLOSING_LINE, MAX_EVENT_LINE_BYTES, MAX_RECORDED_LINE_BYTES, is_closing_line};
 pub use line_error::{LineError, LineWhy};
 pub use line_text::write_line;
 pub use recorded::Recorded;

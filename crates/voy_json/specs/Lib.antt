@@ -3,3 +3,4 @@ pub mod Refusal
 pub mod NameLaws
 pub mod Canonical
 pub mod CanonicalLaws
+pub mod LineLaws

@@ -1,5 +1,5 @@
--- Every text that a column takes is UTF-8.
-use Rattle.std.specs.Prelude.{◌≡◌, ℕ, ◌==◌, Bool, true, List, [], ◌∷◌, codes, nat_le, nat_lt}
+-- Every text that a column takes is UTF-8, and so is every name.
+use Rattle.std.specs.Prelude.{◌≡◌, ℕ, ◌==◌, ◌&&◌, Bool, true, List, [], ◌∷◌, codes, nat_le, nat_lt}
 use Rattle.std.specs.Char.{is_ascii_digit}
 use Rattle.std.specs.List.{list_all}
 use Rattle.std.specs.Str.{is_utf8}
@@ -9,6 +9,7 @@ use Rattle.std.proofs.lemmas.List.Sums.{AllPass-from_list_all}
 use Rattle.std.proofs.lemmas.Slice.Eq.{bytes_eq-Decides}
 use Rattle.std.proofs.lemmas.Str.{IsUtf8-from_ascii, is_utf8-from_IsUtf8}
 use Rattle.std.proofs.lemmas.Str.Ascii.{IsAscii-from_all}
+use Rattle.voy_schema.specs.Lawful.{is_byte_of_name, is_first_of_name, is_name}
 use Rattle.voy_schema.specs.Values.{is_bigint, is_boolean, is_bytea, is_decimal, is_lawful_text, is_lower_hex, is_text}
 use Rattle.voy_schema.specs.declared.table.Kind.{Kind}
 use Rattle.voy_schema.specs.declared.table.Kind.TheVariants as kind
@@ -74,3 +75,21 @@ lawful_text_is_utf8 kind.Text bs lawful = (and_parts _ _ lawful).0
 lawful_text_is_utf8 kind.Bigint bs lawful = ascii_is_utf8 bs (bigint_is_ascii bs lawful)
 lawful_text_is_utf8 kind.Boolean bs lawful = boolean_is_utf8 bs lawful
 lawful_text_is_utf8 kind.Bytea bs lawful = ascii_is_utf8 bs (bytea_is_ascii bs lawful)
+
+first_is_ascii : (b : ℕ) → is_first_of_name b ≡ true → is_ascii b ≡ true
+first_is_ascii b first = elim (or_cases (nat_le 97 b && nat_le b 122) (b == 95) first) [
+  | inl letter ↦ let most = leb-true b 122 (and_parts (nat_le 97 b) (nat_le b 122) letter).1 in lt-ltb b 128 (omega arith)
+  | inr underscore ↦ let same = eqb-true b 95 underscore in lt-ltb b 128 (omega arith)
+]
+
+byte_of_name_is_ascii : (b : ℕ) → is_byte_of_name b ≡ true → is_ascii b ≡ true
+byte_of_name_is_ascii b byte = elim (or_cases (is_first_of_name b) (nat_le 48 b && nat_le b 57) byte) [
+  | inl first ↦ first_is_ascii b first
+  | inr digit ↦ digit_is_ascii b digit
+]
+
+pub name_is_utf8 : (name : List ℕ) → is_name name ≡ true → is_utf8 name ≡ true
+name_is_utf8 [] named = cc
+name_is_utf8 (b ∷ bs) named =
+    let parts = and_parts (is_first_of_name b) (list_all is_byte_of_name bs) (and_parts _ _ named).0 in
+    ascii_is_utf8 (b ∷ bs) (and_from _ _ (first_is_ascii b parts.0) (all_ascii is_byte_of_name byte_of_name_is_ascii bs parts.1))

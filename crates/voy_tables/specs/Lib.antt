@@ -2,6 +2,7 @@ pub mod Keys
 pub mod Changes
 pub mod Tables
 pub mod Lists
+pub mod Folds
 pub mod RowText
 pub mod Standing
 pub mod Laws

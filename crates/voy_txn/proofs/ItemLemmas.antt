@@ -8,27 +8,18 @@ use Rattle.std.proofs.lemmas.Slice.Eq.{bytes_eq-Decides}
 use Rattle.voy_schema.specs.Lawful.{is_lawful}
 use Rattle.voy_schema.specs.declared.table.Table.{Table}
 use Rattle.voy_event.specs.Laws.{EventsReadBack}
-use Rattle.voy_event.specs.EventLaws.{event_is_lawful}
+use Rattle.voy_event.specs.EventLaws.{event_is_lawful, line_is_short}
 use Rattle.voy_event.specs.EventLine.{line_reading, max_event_line_bytes}
 use Rattle.voy_event.specs.LineText.{line_text}
 use Rattle.voy_event.specs.declared.event.Event.{Event}
 use Rattle.voy_event.specs.declared.line_error.LineWhy.{LineWhy}
 use Rattle.voy_event.specs.declared.line_error.LineWhy.TheVariants as why
-use Rattle.voy_txn.specs.LawfulTxn.{IsLawfulItem, ascend_above, is_change}
+use Rattle.voy_txn.specs.LawfulTxn.{IsLawfulItem, ascend_above}
+use Rattle.voy_event.specs.Events.{is_change}
 use Rattle.voy_txn.specs.Payload.{item_part, sized}
 use Rattle.voy_txn.specs.Reading.{◌>>=◌, ascending_items, item_of, items_of, sized_at}
 use Rattle.voy_txn.proofs.FieldLemmas.{AreBytes, bind_some, passed, sized_again, sized_takes}
 use Rattle.voy_txn.proofs.RowLemmas.{ok_from_some}
-
--- a reading that is behind the test of a length
-within_length : (b : Bool) (r : Result Event LineWhy) (e : Event) → cond b (Err why.TooLong) r ≡ Ok e → b ≡ false
-within_length true r e read = absurd cc
-within_length false r e read = refl
-
--- a line that was read is within its limit
-line_is_short : (schema : List Table) (line : List ℕ) (e : Event) → line_reading schema line ≡ Ok e → length line ≤ max_event_line_bytes
-line_is_short schema line e read =
-    ltb-false max_event_line_bytes (length line) (within_length (ltb max_event_line_bytes (length line)) _ e read)
 
 pub item_takes : (schema : List Table) (line : List ℕ) (item : Event) → item_of schema line ≡ Some item
     → IsLawfulItem schema item × (line_text schema item ≡ line)

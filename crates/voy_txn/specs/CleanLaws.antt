@@ -19,7 +19,8 @@ use Rattle.voy_tables.specs.declared.change.Change.{Change}
 use Rattle.voy_tables.specs.declared.change.Misfit.{Misfit}
 use Rattle.voy_txn.specs.Commits.{AreCleanTables}
 use Rattle.voy_txn.specs.History.{tables_after}
-use Rattle.voy_txn.specs.Items.{first_misfit, first_of, items_of, violation_of}
+use Rattle.voy_txn.specs.Items.{items_of, violation_of}
+use Rattle.voy_tables.specs.Folds.{first_misfit, first_of}
 use Rattle.voy_txn.specs.LawfulTxn.{IsLawfulTxn}
 use Rattle.voy_txn.specs.LoadLaws.{items_are_well_formed, load_sets_rows}
 use Rattle.voy_txn.specs.declared.txn.Txn.{Txn}

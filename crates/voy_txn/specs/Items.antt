@@ -1,24 +1,15 @@
 -- What a transaction changes, item by item, and the first item that does not fit.
-use Rattle.std.specs.Prelude.{ℕ, suc, ◌++◌, List, [], ◌∷◌, Option, Some, None, map}
-use Rattle.std.specs.List.{filter_map}
+use Rattle.std.specs.Prelude.{ℕ, suc, ◌++◌, List, [], ◌∷◌, Option, map}
 use Rattle.voy_schema.specs.declared.table.Table.{Table}
 use Rattle.voy_schema.specs.declared.value.Value.{Value}
-use Rattle.voy_tables.specs.Changes.{row_change}
-use Rattle.voy_tables.specs.Lists.{empty_lists, lists_after, misfit_of}
+use Rattle.voy_tables.specs.Folds.{first_misfit}
+use Rattle.voy_tables.specs.Lists.{empty_lists}
 use Rattle.voy_tables.specs.declared.change.Change.{Change}
 use Rattle.voy_tables.specs.declared.change.Change.TheVariants.{Insert}
 use Rattle.voy_tables.specs.declared.change.Misfit.{Misfit}
-use Rattle.voy_event.specs.declared.event.Event.{Event}
-use Rattle.voy_event.specs.declared.event.What.{What}
-use Rattle.voy_event.specs.declared.event.What.TheVariants as what
+use Rattle.voy_event.specs.Events.{changes_in}
 use Rattle.voy_txn.specs.declared.txn.Txn.{Txn}
 use Rattle.voy_txn.specs.declared.txn.Txn.TheVariants.{Load, Batch, Events}
-
--- the change of an event; a cutover has none
-abbrev pub change_of : What → Option Change
-change_of (what.Change c) = Some c
-change_of what.CutoverTarget = None
-change_of what.CutoverSource = None
 
 -- the rows of the tables from this place on, each as an insert, table by table
 abbrev pub inserts_from : ℕ → List (List (List Value)) → List Change
@@ -29,24 +20,13 @@ inserts_from place (rows ∷ tables) = map (Insert place) rows ++ inserts_from (
 abbrev pub items_of : Txn → List Change
 items_of (Load tables) = inserts_from 0 tables
 items_of (Batch table batch rows) = map (Insert table) rows
-items_of (Events channel items) = filter_map (λ (item : Event). change_of item.what) items
+items_of (Events channel items) = changes_in items
 
 -- the tables that the items go into: those that stand, but empty ones for a load
 abbrev pub tables_under : List Table → List (List (List Value)) → Txn → List (List (List Value))
 tables_under schema lists (Load tables) = empty_lists schema
 tables_under schema lists (Batch table batch rows) = lists
 tables_under schema lists (Events channel items) = lists
-
--- the misfit at this place, or else the first behind it
-abbrev pub first_of : Option Misfit → ℕ → Option (ℕ × Misfit) → Option (ℕ × Misfit)
-first_of None at later = later
-first_of (Some why) at later = Some (at, why)
-
--- the first of these changes, counted on from `at`, that does not fit the tables with those before it done
-abbrev pub first_misfit : List Table → List (List (List Value)) → ℕ → List Change → Option (ℕ × Misfit)
-first_misfit schema lists at [] = None
-first_misfit schema lists at (c ∷ cs) =
-    first_of (misfit_of schema (row_change schema c) lists) at (first_misfit schema (lists_after schema (row_change schema c) lists) (suc at) cs)
 
 -- the first item of a transaction that does not fit, counted from 0, and why; none where all fit, one after the other
 abbrev pub violation_of : List Table → List (List (List Value)) → Txn → Option (ℕ × Misfit)

@@ -7,11 +7,10 @@ use Rattle.voy_tables.specs.RowLaws.{is_written}
 use Rattle.voy_tables.specs.RowText.{row_lines}
 use Rattle.voy_tables.specs.Standing.{ascends}
 use Rattle.voy_event.specs.EventLine.{max_event_line_bytes}
+use Rattle.voy_event.specs.Events.{is_change}
 use Rattle.voy_event.specs.LawfulEvent.{IsLawful}
 use Rattle.voy_event.specs.LineText.{line_text}
 use Rattle.voy_event.specs.declared.event.Event.{Event}
-use Rattle.voy_event.specs.declared.event.What.{What}
-use Rattle.voy_event.specs.declared.event.What.TheVariants as what
 use Rattle.voy_txn.specs.Payload.{payload_of}
 use Rattle.voy_txn.specs.declared.txn.Txn.{Txn}
 use Rattle.voy_txn.specs.declared.txn.Txn.TheVariants.{Load, Batch, Events}
@@ -39,12 +38,6 @@ pub record IsLawfulBatch (schema : List Table) (table batch : ℕ) (rows : List 
   pub of_table : AreRowsOf (slice_get schema table) rows
   pub some : 1 ≤ length rows
   pub number : batch < 2 ^ 32
-
--- the event is a change, and no cutover
-abbrev pub is_change : What → Bool
-is_change (what.Change c) = true
-is_change what.CutoverTarget = false
-is_change what.CutoverSource = false
 
 -- each vsn is above the one in front of it, and the first above `last`
 abbrev pub ascend_above : ℕ → List Event → Bool

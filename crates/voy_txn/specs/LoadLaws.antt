@@ -26,7 +26,8 @@ use Rattle.voy_event.specs.LawfulEvent.{IsLawfulFrom}
 use Rattle.voy_event.specs.declared.event.Event.{Event}
 use Rattle.voy_event.specs.declared.event.What.{What}
 use Rattle.voy_event.specs.declared.event.What.TheVariants as what
-use Rattle.voy_txn.specs.Items.{change_of, inserts_from, items_of}
+use Rattle.voy_txn.specs.Items.{inserts_from, items_of}
+use Rattle.voy_event.specs.Events.{change_in}
 use Rattle.voy_txn.specs.LawfulTxn.{AreLoaded, AreRowsOf, IsLawfulItem, IsLawfulTxn}
 use Rattle.voy_txn.specs.declared.txn.Txn.{Txn}
 use Rattle.voy_txn.specs.declared.txn.Txn.TheVariants.{Load, Batch, Events}
@@ -155,13 +156,13 @@ batch_inserts schema n rows None at rows_of = absurd rows_of
 batch_inserts schema n rows (Some t) at rows_of = written_inserts schema t n rows at rows_of.each
 
 event_change : (schema : List Table) (role : Role) (what : What) (cs : List Change) → IsLawfulFrom schema role what → list_all (is_well_formed schema) cs ≡ true
-    → list_all (is_well_formed schema) (cons_option (change_of what) cs) ≡ true
+    → list_all (is_well_formed schema) (cons_option (change_in what) cs) ≡ true
 event_change schema role (what.Change c) cs lawful all = and_from (is_well_formed schema c) (list_all (is_well_formed schema) cs) lawful.well_formed all
 event_change schema role what.CutoverTarget cs lawful all = all
 event_change schema role what.CutoverSource cs lawful all = all
 
 event_changes : (schema : List Table) (items : List Event) → AllByRecursion (IsLawfulItem schema) items
-    → list_all (is_well_formed schema) (filter_map (λ (item : Event). change_of item.what) items) ≡ true
+    → list_all (is_well_formed schema) (filter_map (λ (item : Event). change_in item.what) items) ≡ true
 event_changes schema [] each = refl
 event_changes schema (item ∷ items) each = event_change schema item.role item.what _ each.0.event.what (event_changes schema items each.1)
 

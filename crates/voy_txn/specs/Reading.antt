@@ -10,7 +10,8 @@ use Rattle.voy_tables.specs.Standing.{ascends}
 use Rattle.voy_event.specs.EventLine.{line_reading}
 use Rattle.voy_event.specs.LineText.{line_text}
 use Rattle.voy_event.specs.declared.event.Event.{Event}
-use Rattle.voy_txn.specs.LawfulTxn.{ascend_above, is_change, max_channels, max_items}
+use Rattle.voy_txn.specs.LawfulTxn.{ascend_above, max_channels, max_items}
+use Rattle.voy_event.specs.Events.{is_change}
 use Rattle.voy_txn.specs.Payload.{batch_kind, events_kind, load_kind}
 use Rattle.voy_txn.specs.declared.txn.Txn.{Txn}
 use Rattle.voy_txn.specs.declared.txn.Txn.TheVariants.{Load, Batch, Events}

@@ -5,7 +5,8 @@ ghost use Rattle.std.specs.Str.{bytes_eq};
 ghost use Rattle.voy_event.specs.EventLine.{line_reading};
 ghost use Rattle.voy_event.specs.LawfulEvent.{IsLawful, IsWritable};
 ghost use Rattle.voy_event.specs.LineText.{line_text};
-ghost use Rattle.voy_txn.specs.LawfulTxn.{IsLawfulItem, is_change};
+ghost use Rattle.voy_txn.specs.LawfulTxn.{IsLawfulItem};
+ghost use Rattle.voy_event.specs.Events.{is_change};
 ghost use Rattle.voy_txn.specs.Payload.{item_part};
 ghost use Rattle.voy_txn.specs.Reading.{Gives, ascending_items, item_of, items_of};
 
