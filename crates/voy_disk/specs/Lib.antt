@@ -1,8 +1,16 @@
+pub mod CallLaws
 pub mod Calls
+pub mod ChangeLaws
 pub mod Faults
 pub mod File
 pub mod FileLaws
+pub mod FileStepLaws
 pub mod Files
+pub mod FrameLaws
+pub mod Frames
+pub mod FrontCallLaws
+pub mod FrontLaws
+pub mod Fronts
 pub mod HostDisk
 pub mod HostSink
 pub mod ImageLaws
@@ -12,7 +20,9 @@ pub mod MemFile
 pub mod MemFiles
 pub mod MemSink
 pub mod Name
+pub mod OutageLaws
 pub mod Plan
+pub mod PrefixLaws
 pub mod ReachLaws
 pub mod StepLaws
 pub mod Steps

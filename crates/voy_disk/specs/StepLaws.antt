@@ -30,5 +30,10 @@ module _ {I : Type 0} where
   some_of_one does step i j (suc zero, all) = inr all
   some_of_one does step i j (suc (suc n), all) = inr all
 
+  -- where nothing was done, what was told stays told
+  pub told_nothing : (images : I → Type 0) → StaysTold images images
+  told_nothing images = record { has = λ i is. (i, is) }
+
+  -- what stays told in one call and in another stays told in both
   pub stays_told_on : {J K : Type 0} {a : I → Type 0} {b : J → Type 0} {c : K → Type 0} → StaysTold a b → StaysTold b c → StaysTold a c
   stays_told_on f g = record { has = λ i is. let y = f.has i is in g.has y.0 y.1 }
