@@ -24,6 +24,8 @@ pub mod OutageLaws
 pub mod Plan
 pub mod PrefixLaws
 pub mod ReachLaws
+pub mod SafeFileLaws
+pub mod SafeFiles
 pub mod StepLaws
 pub mod Steps
 pub mod SureDisk

@@ -1,5 +1,5 @@
 -- Laws of the steps that lead from the images before a call to those after it.
-use Rattle.std.proofs.Common.{◌⊎◌, inl, inr, zero, suc, List, [], ◌∷◌, refl}
+use Rattle.std.proofs.Common.{◌⊎◌, inl, inr, zero, suc, List, [], ◌∷◌, refl, subst, sym}
 use Rattle.voy_disk.specs.Steps.{Every, Follows, StaysTold, Same, SomeFirst}
 
 module _ {I : Type 0} where
@@ -19,6 +19,10 @@ module _ {I : Type 0} where
         let x = f.from y.before y.was in
         record { before = x.before; was = x.was; by = on x.before y.before k x.by y.by };
   }
+
+  -- a further call that leaves no image that was not there
+  pub then_same : {s : I → I → Type 0} {a b c : I → Type 0} → Follows s a b → Follows Same b c → Follows s a c
+  then_same {s} first second = follows_on first second (λ i j k step same. subst (λ image. s i image) (sym same) step)
 
   -- what the step hands on from each image, each image after has
   pub every_along : {s : I → I → Type 0} {a b : I → Type 0} {P Q : I → Type 0} → Every a P → Follows s a b → ((i j : I) → P i → s i j → Q j) → Every b Q

@@ -7,12 +7,12 @@ use Rattle.voy_disk.specs.File.{settled}
 use Rattle.voy_disk.specs.FileLaws.{one_image}
 use Rattle.voy_disk.specs.Files.{Files, IfTold, bytes_now}
 use Rattle.voy_disk.specs.ImageLaws.{image_there}
-use Rattle.voy_disk.specs.Images.{Image, ImagesOf}
+use Rattle.voy_disk.specs.Images.{Image, ImagesOf, bytes_in}
 use Rattle.voy_disk.specs.Steps.{Follows}
 use Rattle.voy_disk.specs.StepLaws.{every_along}
 use Rattle.voy_journal.specs.Grammar.{Fit, entries, payloads_of}
 use Rattle.voy_journal.specs.GrammarLaws.{payloads_read}
-use Rattle.voy_journal.specs.Journal.{AddsPayloads, HasJournal, KeepsPayloads, Stands, StandsAt, bytes_in}
+use Rattle.voy_journal.specs.Journal.{AddsPayloads, HasJournal, KeepsPayloads, Stands, StandsAt}
 
 -- where a journal stands, every image has its payloads
 pub stands_in_every : (files : Option Files) (name : List ℕ) (place : ℕ) (payloads : List (List ℕ)) → IfTold files (StandsAt name place payloads)

@@ -6,4 +6,3 @@ pub mod GrammarLaws
 pub mod Journal
 pub mod JournalLaws
 pub mod Reading
-pub mod Storing

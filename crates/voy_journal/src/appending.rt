@@ -5,9 +5,10 @@ ghost use Rattle.voy_disk.specs.Faults.{HasCause};
 ghost use Rattle.voy_disk.specs.Files.{IfTold};
 ghost use Rattle.voy_disk.specs.Images.{ImagesOf, SameBut};
 ghost use Rattle.voy_disk.specs.Steps.{DoesAll, Follows, LeavesPrefix, StaysTold};
-ghost use Rattle.voy_journal.specs.Journal.{AddsPayloads, KeepsOtherFiles, Stands, StandsOn, is_live, journal_name, known_payloads};
+ghost use Rattle.voy_journal.specs.Journal.{AddsPayloads, Stands, StandsOn, is_live, journal_name, known_payloads};
 ghost use Rattle.voy_journal.specs.Blocks.{Appends, AppendsOrNot, IsBlock};
-ghost use Rattle.voy_journal.specs.Storing.{KeepsFront};
+ghost use Rattle.voy_disk.specs.Frames.{KeepsOtherFiles};
+ghost use Rattle.voy_disk.specs.SafeFiles.{KeepsFrontNow};
 
 use crate::error::JournalError;
 use crate::limits::{BLOCK_BYTES, CLOSED_GATE, MAX_PAYLOAD_BYTES, OPEN_GATE};
@@ -77,7 +78,7 @@ fn put_behind<D: Disk>(disk: &mut D, name: &Name, gate: u64, block: &[u8]) -> Re
     ensures appends { OnOk result (Appends name.now gate block.now (D.files disk.old) (D.files disk.new)) }
     ensures fits { OnOk result (gate + length block.now + 1 < 2 ^ 63) }
     ensures same_but { Follows (SameBut name.now) (ImagesOf (D.files disk.old)) (ImagesOf (D.files disk.new)) }
-    ensures front { Change (KeepsFront name.now gate) (D.files disk.old) (D.files disk.new) }
+    ensures front { Change (KeepsFrontNow name.now gate) (D.files disk.old) (D.files disk.new) }
     ensures others { Change (KeepsOtherFiles name.now) (D.files disk.old) (D.files disk.new) }
     ensures cause { HasCause DiskError.Failed (D.faults disk.old) (D.faults disk.new) result }
     ensures lender { D.lender disk.new ≡ D.lender disk.old }

@@ -5,8 +5,9 @@ ghost use Rattle.voy_disk.specs.Files.{IfTold, bytes_now};
 ghost use Rattle.voy_disk.specs.Images.{ImagesOf};
 ghost use Rattle.voy_disk.specs.Steps.{Follows, StaysTold};
 ghost use Rattle.voy_journal.specs.Grammar.{DamagedAt, FitAFile, HasPayloads};
-ghost use Rattle.voy_journal.specs.Journal.{HasJournal, KeepsOtherFiles, KeepsPayloads, StandsAt, StandsOn, is_live, journal_name, known_payloads};
-ghost use Rattle.voy_journal.specs.Storing.{Settles};
+ghost use Rattle.voy_journal.specs.Journal.{HasJournal, KeepsPayloads, StandsAt, StandsOn, is_live, journal_name, known_payloads};
+ghost use Rattle.voy_disk.specs.Frames.{KeepsOtherFiles};
+ghost use Rattle.voy_disk.specs.SafeFiles.{Settles};
 
 use crate::error::JournalError;
 use crate::limits::CLOSED_GATE;

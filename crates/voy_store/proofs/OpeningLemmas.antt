@@ -8,7 +8,7 @@ use Rattle.voy_disk.specs.Files.{Files, IfTold, bytes_now}
 use Rattle.voy_disk.specs.Images.{ImagesOf}
 use Rattle.voy_disk.specs.Steps.{Every}
 use Rattle.voy_journal.specs.Grammar.{Fit, HasPayloads, entries}
-use Rattle.voy_journal.specs.Journal.{KeepsOtherFiles, StandsOn, journal_name, known_payloads, payloads_in}
+use Rattle.voy_journal.specs.Journal.{StandsOn, journal_name, known_payloads, payloads_in}
 use Rattle.voy_journal.specs.declared.state.Journal.{Journal}
 use Rattle.voy_journal.specs.declared.limits.TheConstants.{MAX_PAYLOAD_BYTES}
 use Rattle.voy_schema.specs.declared.table.Table.{Table}
@@ -24,6 +24,7 @@ use Rattle.voy_txn.specs.HistoryLaws.{contents_grow}
 use Rattle.voy_txn.specs.Items.{violation_of}
 use Rattle.voy_txn.specs.Reading.{txn_reading}
 use Rattle.voy_txn.specs.declared.txn.Txn.{Txn}
+use Rattle.voy_disk.specs.Frames.{KeepsOtherFiles}
 
 -- files that stay as they are
 pub nothing_changed : (name : List ℕ) (files : Option Files) → Change (KeepsOtherFiles name) files files

@@ -6,10 +6,11 @@ ghost use Rattle.voy_disk.specs.Files.{IfTold, bytes_now};
 ghost use Rattle.voy_disk.specs.Images.{ImagesOf};
 ghost use Rattle.voy_disk.specs.Steps.{Every, Follows, StaysTold};
 ghost use Rattle.voy_journal.specs.Grammar.{DamagedAt, FitAFile, HasPayloads};
-ghost use Rattle.voy_journal.specs.Journal.{KeepsOtherFiles, KeepsPayloads, StandsOn, is_live, journal_name, known_payloads, payloads_in};
+ghost use Rattle.voy_journal.specs.Journal.{KeepsPayloads, StandsOn, is_live, journal_name, known_payloads, payloads_in};
 ghost use Rattle.voy_store.specs.JournalLogs.{history_on, history_told};
 ghost use Rattle.voy_store.specs.Opening.{TellsStored, cause_of, given_back};
 ghost use Rattle.voy_store.specs.Stored.{IsStoreDamaged, store_name};
+ghost use Rattle.voy_disk.specs.Frames.{KeepsOtherFiles};
 
 use crate::journal_log::JournalLog;
 use crate::log_store::LogStore;

@@ -1,7 +1,8 @@
 use Rattle.std.proofs.Common.{◌+◌, arith}
 use Rattle.std.proofs.lemmas.Result.{on_ok_weaker}
-use Rattle.voy_journal.proofs.Calls.{front_less, front_on, others_on}
 use Rattle.voy_journal.proofs.Gates.{gate_there, opened, opened_images, staged, staged_images}
+use Rattle.voy_disk.specs.SafeFileLaws.{front_less, front_on}
+use Rattle.voy_disk.specs.ChangeLaws.{others_on}
 use Rattle.voy_journal.proofs.appending.put_behind.Goals as goal
 
 pub returns-in_err-write_safely-clause-either : goal.returns-in_err-write_safely-clause-either

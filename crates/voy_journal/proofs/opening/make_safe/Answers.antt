@@ -1,14 +1,16 @@
 use Rattle.std.proofs.Common.{Err, Ok}
-use Rattle.voy_disk.specs.ImageLaws.{sync_follows}
-use Rattle.voy_journal.proofs.Calls.{change_weaker, others_after, others_on, then_same}
-use Rattle.voy_journal.proofs.Settling.{created_keeps, created_others, settles}
+use Rattle.voy_journal.proofs.Settling.{created_keeps}
+use Rattle.voy_disk.specs.CallLaws.{sync_follows}
+use Rattle.voy_disk.specs.ChangeLaws.{change_weaker, others_after, others_after_create, others_on}
+use Rattle.voy_disk.specs.StepLaws.{then_same}
+use Rattle.voy_disk.specs.SafeFileLaws.{settles}
 use Rattle.voy_journal.proofs.opening.make_safe.Goals as goal
 
 pub returns-in_err-create-clause-images : goal.returns-in_err-create-clause-images
 returns-in_err-create-clause-images g c = created_keeps {T = Unit {0}} (Err c.in_err-create.field-0.0) c.args.name.now _ _ c.in_err-create.ensures.created
 
 pub returns-in_err-create-clause-others : goal.returns-in_err-create-clause-others
-returns-in_err-create-clause-others g c = created_others {T = Unit {0}} (Err c.in_err-create.field-0.0) c.args.name.now _ _ c.in_err-create.ensures.created
+returns-in_err-create-clause-others g c = others_after_create {T = Unit {0}} (Err c.in_err-create.field-0.0) c.args.name.now _ _ c.in_err-create.ensures.created
 
 pub returns-clause-settles : goal.returns-clause-settles
 returns-clause-settles g c = settles c.sync.result c.args.name.now _ _ _ c.in_ok-create.ensures.created c.sync.ensures.synced

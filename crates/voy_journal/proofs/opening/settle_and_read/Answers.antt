@@ -2,8 +2,8 @@ use Rattle.std.proofs.Common.{arith, inl, subst, sym, ap, ◌∙◌, List, ℕ, 
 use Rattle.std.proofs.lemmas.Result.{IfErr-weaker, IfOk-weaker}
 use Rattle.voy_disk.specs.Files.{bytes_now}
 use Rattle.voy_journal.specs.Grammar.{DamagedAt, Holds}
-use Rattle.voy_journal.proofs.Calls.{at_old, others_on}
 use Rattle.voy_journal.proofs.Settling.{remade, settled_to, stands_anew}
+use Rattle.voy_disk.specs.ChangeLaws.{at_old, others_on}
 use Rattle.voy_journal.proofs.opening.settle_and_read.Goals as goal
 
 pub returns-in_err-write_safely-clause-images : goal.returns-in_err-write_safely-clause-images

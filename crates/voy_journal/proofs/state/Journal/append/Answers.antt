@@ -1,9 +1,9 @@
 use Rattle.std.proofs.Common.{◌≡◌, ◌∙◌, List, ℕ, refl, subst, sym, length}
-use Rattle.voy_disk.specs.ImageLaws.{change_stays_told}
 use Rattle.voy_journal.specs.Blocks.{IsBlock}
-use Rattle.voy_journal.specs.Journal.{KeepsOtherFiles}
 use Rattle.voy_journal.proofs.Adding.{adds_one, knows_one_more, leaves_prefix, stands_again}
-use Rattle.voy_journal.proofs.Calls.{no_change}
+use Rattle.voy_disk.specs.CallLaws.{change_stays_told}
+use Rattle.voy_disk.specs.Frames.{KeepsOtherFiles}
+use Rattle.voy_disk.specs.ChangeLaws.{no_change}
 use Rattle.voy_journal.proofs.state.Journal.append.Goals as goal
 
 pub returns-then-payload-clause-others : goal.returns-then-payload-clause-others
