@@ -45,6 +45,9 @@ others_on first second = change_on first second (λ x y z r s other differs. s o
 pub others_same : (name : List ℕ) (a b : Option Files) → b ≡ a → Change (KeepsOtherFiles name) a b
 others_same name a b same = no_change (KeepsOtherFiles name) (λ x other differs. refl) a b same
 
+pub others_still : (name : List ℕ) (files : Option Files) → Change (KeepsOtherFiles name) files files
+others_still name files = others_same name files files refl
+
 -- other files stay, whatever a call of this one answers
 pub others_after : {T : Type 0} (R S : File → File → Type 0) (result : Result T DiskError) (name : List ℕ) (old new : Option Files)
     → Leaves result (Changes R name) (Changes S name) old new → Change (KeepsOtherFiles name) old new

@@ -1,8 +1,8 @@
 -- Laws of a write into a file that is safe as it reads.
-use Rattle.std.proofs.Common.{◌≡◌, ◌≤◌, ◌+◌, ℕ, List, Option, Some, None, Result, Ok, Err, length, take, drop, inl, ◌++◌, arith, refl, sym, ap, ◌∙◌, subst}
+use Rattle.std.proofs.Common.{◌≡◌, ◌≤◌, ◌+◌, ℕ, List, Option, Some, None, Result, Ok, Err, length, take, drop, inl, inr, ◌++◌, arith, refl, sym, ap, ◌∙◌, subst}
 use Rattle.std.specs.Prelude.{OnOk}
 use Rattle.std.proofs.lemmas.List.{length-take-le, take-take, take_at}
-use Rattle.voy_disk.specs.Calls.{Change, Changes, Created, IsThereWith, Leaves, SameOutside, Smeared, SyncFailed, Synced, Wrote, or_empty}
+use Rattle.voy_disk.specs.Calls.{Change, Changes, Created, DoneOrNot, IsThereWith, Leaves, SameOutside, Smeared, SyncFailed, Synced, Wrote, or_empty}
 use Rattle.voy_disk.specs.ChangeLaws.{change_if, change_on, change_weaker, no_change}
 use Rattle.voy_disk.specs.File.{File, IsImage, settled, touch, written}
 use Rattle.voy_disk.specs.FileLaws.{changed_within, same_front}
@@ -10,7 +10,7 @@ use Rattle.voy_disk.specs.FileStepLaws.{follows_file}
 use Rattle.voy_disk.specs.Files.{Files, IfTold, Told, bytes_now}
 use Rattle.voy_disk.specs.ImageLaws.{file_same, follows_if, image_there}
 use Rattle.voy_disk.specs.Images.{Image, ImagesOf, IsImageOf, StepAt}
-use Rattle.voy_disk.specs.SafeFiles.{IsSafeFile, KeepsFrontNow, Rewrites, Settles}
+use Rattle.voy_disk.specs.SafeFiles.{IsSafeFile, KeepsBytesNow, KeepsFrontNow, Rewrites, Settles}
 use Rattle.voy_disk.specs.Steps.{Follows}
 use Rattle.voy_disk.specs.declared.disk.DiskError.{DiskError}
 use Rattle.voy_disk.specs.declared.disk.DiskError.TheVariants.{Failed, NoMemory}
@@ -114,3 +114,25 @@ settles (Err error) name a b c created synced = tt
 settles (Ok value) name a b c created synced = change_on created synced (λ x y z made sync.
     let old : sync.before ≡ or_empty (x name) = file_same (sym sync.was ∙ made.is) in
     sync.is ∙ ap Some (sync.step ∙ ap (λ (file : File). settled file.now) old ∙ ap settled (bytes_of (x name))))
+
+-- whatever a creation answers, the file reads as before
+pub create_keeps_bytes : {T : Type 0} (result : Result T DiskError) (name : List ℕ) (old new : Option Files)
+    → Leaves result (Created name) (DoneOrNot (Created name)) old new → Change (KeepsBytesNow name) old new
+create_keeps_bytes (Ok value) name old new change = change_weaker change (λ x y r. ap bytes_now r.is ∙ bytes_of (x name))
+create_keeps_bytes (Err Failed) name old new change = change_weaker change (λ x y r. elim r [
+  | inl same ↦ ap (λ (files : Files). bytes_now (files name)) same
+  | inr created ↦ ap bytes_now created.is ∙ bytes_of (x name)
+])
+create_keeps_bytes (Err NoMemory) name old new same = no_change (KeepsBytesNow name) (λ x. refl) old new same
+
+-- and so it does whatever a sync answers
+pub sync_keeps_bytes : {T : Type 0} (result : Result T DiskError) (name : List ℕ) (old new : Option Files)
+    → Leaves result (Changes Synced name) (Changes SyncFailed name) old new → Change (KeepsBytesNow name) old new
+sync_keeps_bytes (Ok value) name old new change = change_weaker change (λ x y r.
+    ap bytes_now r.is ∙ ap (λ (file : File). file.now) r.step ∙ sym (ap bytes_now r.was))
+sync_keeps_bytes (Err Failed) name old new change = change_weaker change (λ x y r. ap bytes_now r.is ∙ r.step.now ∙ sym (ap bytes_now r.was))
+sync_keeps_bytes (Err NoMemory) name old new same = no_change (KeepsBytesNow name) (λ x. refl) old new same
+
+-- a file that reads as before in one call and in another
+pub keeps_bytes_on : {name : List ℕ} {a b c : Option Files} → Change (KeepsBytesNow name) a b → Change (KeepsBytesNow name) b c → Change (KeepsBytesNow name) a c
+keeps_bytes_on first second = change_on first second (λ x y z r s. s ∙ r)

@@ -12,6 +12,10 @@ use Rattle.voy_journal.specs.declared.state.Journal.{Journal}
 abbrev pub journal_name : Journal → List ℕ
 journal_name journal = journal.name
 
+-- the place of its closed gate
+abbrev pub journal_gate : Journal → ℕ
+journal_gate journal = journal.gate
+
 -- it may be appended to
 abbrev pub is_live : Journal → Bool
 is_live journal = journal.live
