@@ -83,7 +83,7 @@ impl<D: Disk> LogStore<JournalLog<D>> {
 }
 
 /// Opens the journal of a store.
-#[tactic(auto, using(crate::proofs::OpeningLemmas::nothing_changed))]
+#[tactic(auto, using(voy_disk::specs::ChangeLaws::others_still))]
 fn open_journal<D: Disk>(alloc: Global, disk: &mut D) -> Result<Opened, OpenError>
     ensures payloads { IfOk result (λ opened. IfTold (D.files disk.old) (λ fs. HasPayloads opened.payloads (bytes_now (fs store_name)))) }
     ensures known { IfOk result (λ opened. IfTold (D.files disk.new) (λ fs. known_payloads opened.journal (Some fs) ≡ Some opened.payloads)) }
