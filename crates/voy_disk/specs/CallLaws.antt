@@ -1,9 +1,9 @@
 -- Laws of the calls of a disk: the images that each leaves, whatever it answers.
-use Rattle.std.proofs.Common.{◌≡◌, ◌⊎◌, inl, inr, ℕ, List, [], ◌∷◌, ◌∙◌, Option, Some, None, Result, Ok, Err, sym, ap, subst}
+use Rattle.std.proofs.Common.{◌≡◌, ◌⊎◌, inl, inr, ℕ, List, [], ◌∷◌, ◌∙◌, Option, Some, None, Result, Ok, Err, refl, sym, ap, subst}
 use Rattle.voy_disk.specs.Calls.{Change, untold, told, Changes, Created, DoneOrNot, Leaves, Renamed, SyncFailed, Synced, or_empty}
 use Rattle.voy_disk.specs.File.{File}
 use Rattle.voy_disk.specs.FileStepLaws.{created_images, others_stay, renamed_images, sync_failed_images, synced_images}
-use Rattle.voy_disk.specs.Files.{Files, ReadsImages, Told}
+use Rattle.voy_disk.specs.Files.{Files, ReadsImages, IfTold}
 use Rattle.voy_disk.specs.ImageLaws.{follows_change, follows_told, image_there, now_is_an_image, same_files}
 use Rattle.voy_disk.specs.Images.{Creates, Image, ImagesOf, IsImageOf, Makes, NewName, Renames, SameBut, TakesName, bytes_in, now_image}
 use Rattle.voy_disk.specs.Steps.{DoesAll, Follows, InTurn, LeavesPrefix, Same, SomeFirst, StaysTold}
@@ -20,13 +20,13 @@ done_or_not R x y done not (inl same) = not (subst (λ z. Follows Same (IsImageO
 done_or_not R x y done not (inr r) = done r
 
 -- whatever a write, a cut or a sync answers, each image of before or after has the same other files
-pub one_file_follows : {T : Type 0} (R S : File → File → Type 0) (result : Result T DiskError) (name : List ℕ) (old new : Option Files) → Told old ReadsImages → Leaves result (Changes R name) (Changes S name) old new → Follows (SameBut name) (ImagesOf old) (ImagesOf new)
+pub one_file_follows : {T : Type 0} (R S : File → File → Type 0) (result : Result T DiskError) (name : List ℕ) (old new : Option Files) → IfTold old ReadsImages → Leaves result (Changes R name) (Changes S name) old new → Follows (SameBut name) (ImagesOf old) (ImagesOf new)
 one_file_follows R S (Ok value) name old new reads change = follows_told reads change (λ x y reads_x r. others_stay x y name reads_x r)
 one_file_follows R S (Err Failed) name old new reads change = follows_told reads change (λ x y reads_x r. others_stay x y name reads_x r)
 one_file_follows R S (Err NoMemory) name old new reads same = follows_weaker (same_files same) (same_but name)
 
 -- whatever a sync answers, it leaves no image that was none before
-pub sync_follows : {T : Type 0} (result : Result T DiskError) (name : List ℕ) (old new : Option Files) → Told old ReadsImages → Leaves result (Changes Synced name) (Changes SyncFailed name) old new → Follows Same (ImagesOf old) (ImagesOf new)
+pub sync_follows : {T : Type 0} (result : Result T DiskError) (name : List ℕ) (old new : Option Files) → IfTold old ReadsImages → Leaves result (Changes Synced name) (Changes SyncFailed name) old new → Follows Same (ImagesOf old) (ImagesOf new)
 sync_follows (Ok value) name old new reads change = follows_told reads change (λ x y reads_x r. synced_images x y name reads_x r)
 sync_follows (Err Failed) name old new reads change = follows_change change (λ x y r. sync_failed_images x y name r)
 sync_follows (Err NoMemory) name old new reads same = same_files same
@@ -38,18 +38,18 @@ create_follows (Err Failed) name old new change = follows_change change (λ x y 
 create_follows (Err NoMemory) name old new same = follows_weaker (same_files same) (λ i j s. inl s)
 
 -- whatever a renaming answers, each image is one of before, or has the file by its new name
-pub rename_follows : {T : Type 0} (result : Result T DiskError) (from to : List ℕ) (old new : Option Files) → Told old (λ fs. fs to ≡ None) → Leaves result (Renamed from to) (DoneOrNot (Renamed from to)) old new → Follows (λ i j. Same i j ⊎ Renames from to i j) (ImagesOf old) (ImagesOf new)
+pub rename_follows : {T : Type 0} (result : Result T DiskError) (from to : List ℕ) (old new : Option Files) → IfTold old (λ fs. fs to ≡ None) → Leaves result (Renamed from to) (DoneOrNot (Renamed from to)) old new → Follows (λ i j. Same i j ⊎ Renames from to i j) (ImagesOf old) (ImagesOf new)
 rename_follows (Ok value) from to old new free change = follows_told free change (λ x y free_x r. follows_weaker (renamed_images x y from to free_x r) (λ i j s. inr s))
 rename_follows (Err Failed) from to old new free change = follows_told free change (λ x y free_x r. done_or_not (Renamed from to) x y (λ renamed. follows_weaker (renamed_images x y from to free_x renamed) (λ i j s. inr s)) (λ same. follows_weaker same (λ i j s. inl s)) r)
 rename_follows (Err NoMemory) from to old new free same = follows_weaker (same_files same) (λ i j s. inl s)
 
 -- a disk that told its files tells them after a change
-pub change_stays_told : {R : Files → Files → Type 0} {old new : Option Files} → Change R old new → Told new ReadsImages → StaysTold (ImagesOf old) (ImagesOf new)
+pub change_stays_told : {R : Files → Files → Type 0} {old new : Option Files} → Change R old new → IfTold new ReadsImages → StaysTold (ImagesOf old) (ImagesOf new)
 change_stays_told untold reads = record { has = λ i is. absurd is }
-change_stays_told (told {old = x} {new = y} r) reads = record { has = λ i is. (now_image y, now_is_an_image y reads) }
+change_stays_told (told {old = x} {new = y} r) reads = record { has = λ i is. (now_image y, now_is_an_image y (reads y refl)) }
 
 -- and so it does whatever a call answers
-pub stays_told : {T : Type 0} (R S : Files → Files → Type 0) (result : Result T DiskError) (old new : Option Files) → Leaves result R S old new → Told new ReadsImages → StaysTold (ImagesOf old) (ImagesOf new)
+pub stays_told : {T : Type 0} (R S : Files → Files → Type 0) (result : Result T DiskError) (old new : Option Files) → Leaves result R S old new → IfTold new ReadsImages → StaysTold (ImagesOf old) (ImagesOf new)
 stays_told R S (Ok value) old new change reads = change_stays_told change reads
 stays_told R S (Err Failed) old new change reads = change_stays_told change reads
 stays_told R S (Err NoMemory) old new same reads = record { has = λ i is. (i, subst (λ files. ImagesOf files i) (sym same) is) }
@@ -99,7 +99,7 @@ create_does (Err error) name old new change = tt
 create_does (Ok value) name old new change = follows_change change (λ x y r. created_in_each x y name r)
 
 -- whatever a renaming answers, it was done or not
-pub rename_leaves : {T : Type 0} (result : Result T DiskError) (name : NewName) (old new : Option Files) → Told old (λ fs. fs name.to ≡ None)
+pub rename_leaves : {T : Type 0} (result : Result T DiskError) (name : NewName) (old new : Option Files) → IfTold old (λ fs. fs name.to ≡ None)
     → Leaves result (Renamed name.from name.to) (DoneOrNot (Renamed name.from name.to)) old new → LeavesPrefix (InTurn TakesName) (name ∷ []) (ImagesOf old) (ImagesOf new)
 rename_leaves result name old new free change = follows_weaker (rename_follows result name.from name.to old new free change) (λ i j step. elim step [
   | inl same ↦ (0, same)
@@ -107,7 +107,7 @@ rename_leaves result name old new free change = follows_weaker (rename_follows r
 ])
 
 -- after Ok, it was done
-pub rename_does : {T : Type 0} (result : Result T DiskError) (name : NewName) (old new : Option Files) → Told old (λ fs. fs name.to ≡ None)
+pub rename_does : {T : Type 0} (result : Result T DiskError) (name : NewName) (old new : Option Files) → IfTold old (λ fs. fs name.to ≡ None)
     → Leaves result (Renamed name.from name.to) (DoneOrNot (Renamed name.from name.to)) old new → DoesAll (InTurn TakesName) (name ∷ []) result (ImagesOf old) (ImagesOf new)
 rename_does (Err error) name old new free change = tt
 rename_does (Ok value) name old new free change = follows_told free change (λ x y free_x r.

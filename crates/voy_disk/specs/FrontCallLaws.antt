@@ -3,7 +3,7 @@ use Rattle.std.proofs.Common.{◌≤◌, ◌-◌, ◌∙◌, ℕ, List, Option, 
 use Rattle.voy_disk.specs.CallLaws.{sync_follows}
 use Rattle.voy_disk.specs.Calls.{Change, Changes, CutFailed, Leaves, Smeared, SyncFailed, Synced, WasCut, Wrote, told, untold}
 use Rattle.voy_disk.specs.File.{File, written}
-use Rattle.voy_disk.specs.Files.{Files, IfTold, ReadsImages, Told}
+use Rattle.voy_disk.specs.Files.{Files, IfTold, ReadsImages}
 use Rattle.voy_disk.specs.FrontLaws.{TouchedFrom, front_stays, same_keeps_front}
 use Rattle.voy_disk.specs.Fronts.{HasFront, KeepsFront}
 use Rattle.voy_disk.specs.ImageLaws.{same_files}
@@ -47,5 +47,5 @@ cut_keeps_front (Err NoMemory) name front to old new reads has behind same = sam
 
 -- a sync
 pub sync_keeps_front : {T : Type 0} (result : Result T DiskError) (name : List ℕ) (n : ℕ) (old new : Option Files)
-    → Told old ReadsImages → Leaves result (Changes Synced name) (Changes SyncFailed name) old new → Follows (KeepsFront name n) (ImagesOf old) (ImagesOf new)
+    → IfTold old ReadsImages → Leaves result (Changes Synced name) (Changes SyncFailed name) old new → Follows (KeepsFront name n) (ImagesOf old) (ImagesOf new)
 sync_keeps_front result name n old new reads change = same_keeps_front name n (sync_follows result name old new reads change)

@@ -8,7 +8,7 @@ use Rattle.std.proofs.lemmas.Option.{none-some, MatchOption-at_some}
 use Rattle.std.specs.Prelude.{unwrap_or, IfSome, ⊤}
 use Rattle.voy_disk.specs.Calls.{Change, untold, told}
 use Rattle.voy_disk.specs.File.{File, IsImage}
-use Rattle.voy_disk.specs.Files.{Files, IfTold, ReadsImages, Told}
+use Rattle.voy_disk.specs.Files.{Files, IfTold, ReadsImages}
 use Rattle.voy_disk.specs.Images.{Image, ImagesOf, IsImageAt, absent, there, IsImageOf, SameBut, now_image, with_file}
 use Rattle.voy_disk.specs.Steps.{Follows, Same}
 use Rattle.voy_disk.specs.StepLaws.{follows_nothing}
@@ -62,15 +62,9 @@ follows_change untold law = record { from = λ j is. absurd is }
 follows_change (told {old = x} {new = y} r) law = law x y r
 
 -- the same with a fact that is told of the files before
-pub follows_told : {P : Files → Type 0} {R : Files → Files → Type 0} {step : Image → Image → Type 0} {old new : Option Files} → Told old P → Change R old new → ((x y : Files) → P x → R x y → Follows step (IsImageOf x) (IsImageOf y)) → Follows step (ImagesOf old) (ImagesOf new)
+pub follows_told : {P : Files → Type 0} {R : Files → Files → Type 0} {step : Image → Image → Type 0} {old new : Option Files} → IfTold old P → Change R old new → ((x y : Files) → P x → R x y → Follows step (IsImageOf x) (IsImageOf y)) → Follows step (ImagesOf old) (ImagesOf new)
 follows_told p untold law = record { from = λ j is. absurd is }
-follows_told p (told {old = x} {new = y} r) law = law x y p r
-
--- the same with a fact of them that is given as an implication
-pub follows_if : {P : Files → Type 0} {R : Files → Files → Type 0} {step : Image → Image → Type 0} {old new : Option Files} → IfTold old P → Change R old new
-    → ((x y : Files) → P x → R x y → Follows step (IsImageOf x) (IsImageOf y)) → Follows step (ImagesOf old) (ImagesOf new)
-follows_if p untold law = record { from = λ j is. absurd is }
-follows_if p (told {old = x} {new = y} r) law = law x y (p x refl) r
+follows_told p (told {old = x} {new = y} r) law = law x y (p x refl) r
 
 same_name : (name : List ℕ) → bytes_eq name name ≡ true
 same_name name = (bytes_eq-Decides name name).1 refl

@@ -7,8 +7,8 @@ use Rattle.voy_disk.specs.ChangeLaws.{change_if, change_on, change_weaker, no_ch
 use Rattle.voy_disk.specs.File.{File, IsImage, settled, touch, written}
 use Rattle.voy_disk.specs.FileLaws.{changed_within, same_front}
 use Rattle.voy_disk.specs.FileStepLaws.{follows_file}
-use Rattle.voy_disk.specs.Files.{Files, IfTold, Told, bytes_now}
-use Rattle.voy_disk.specs.ImageLaws.{file_same, follows_if, image_there}
+use Rattle.voy_disk.specs.Files.{Files, IfTold, bytes_now}
+use Rattle.voy_disk.specs.ImageLaws.{file_same, follows_told, image_there}
 use Rattle.voy_disk.specs.Images.{Image, ImagesOf, IsImageOf, StepAt}
 use Rattle.voy_disk.specs.SafeFiles.{IsSafeFile, KeepsBytesNow, KeepsFrontNow, Rewrites, Settles}
 use Rattle.voy_disk.specs.Steps.{Follows}
@@ -17,9 +17,8 @@ use Rattle.voy_disk.specs.declared.disk.DiskError.TheVariants.{Failed, NoMemory}
 
 -- a safe file is there
 pub room_there : (files : Option Files) (name : List ℕ) (at : ℕ) → IfTold files (IsSafeFile name at)
-    → Told files (λ fs. IsThereWith (λ file. at ≤ length file.now) (fs name))
-room_there None name at safe = tt
-room_there (Some fs) name at safe = let file = safe fs refl in rw file.is file.room
+    → IfTold files (λ fs. IsThereWith (λ file. at ≤ length file.now) (fs name))
+room_there files name at safe fs is = let file = safe fs is in rw file.is file.room
 
 -- a touched range of a file that was safe
 touched_images : (bytes : List ℕ) (at n : ℕ) (f g : File) (now : List ℕ) → f ≡ settled bytes → g ≡ touch f at n now → Follows (SameOutside at n) (IsImage f) (IsImage g)
@@ -55,9 +54,9 @@ safe_stays x name at n bytes is = record {
 pub write_follows : {T : Type 0} (result : Result T DiskError) (name : List ℕ) (at : ℕ) (bytes : List ℕ) (old new : Option Files) → IfTold old (IsSafeFile name at)
     → Leaves result (Changes (Wrote at bytes) name) (Changes (Smeared at (length bytes)) name) old new
     → Follows (StepAt name (SameOutside at (length bytes))) (ImagesOf old) (ImagesOf new)
-write_follows (Ok value) name at bytes old new safe change = follows_if safe change (λ x y file r.
+write_follows (Ok value) name at bytes old new safe change = follows_told safe change (λ x y file r.
     follows_file x y name r (λ f g is wrote. touched_images file.bytes at (length bytes) f g (written f.now at bytes) (file_same (sym is ∙ file.is)) wrote))
-write_follows (Err Failed) name at bytes old new safe change = follows_if safe change (λ x y file r.
+write_follows (Err Failed) name at bytes old new safe change = follows_told safe change (λ x y file r.
     follows_file x y name r (λ f g is smeared. touched_images file.bytes at (length bytes) f g g.now (file_same (sym is ∙ file.is)) smeared.file))
 write_follows (Err NoMemory) name at bytes None new safe same = rw same (record { from = λ j is. absurd is })
 write_follows (Err NoMemory) name at bytes (Some x) new safe same = rw same (let file = safe x refl in safe_stays x name at (length bytes) file.bytes file.is)

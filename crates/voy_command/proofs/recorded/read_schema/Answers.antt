@@ -1,6 +1,6 @@
 use Rattle.std.proofs.Common.{◌≡◌, ℕ, List, Some, ap, ◌∙◌, is_some, true}
 use Rattle.std.proofs.lemmas.Result.{IfErr-weaker, IfOk-weaker}
-use Rattle.voy_disk.specs.Files.{Files, bytes_now, told_at}
+use Rattle.voy_disk.specs.Files.{Files, bytes_now}
 use Rattle.voy_command.specs.Files.{file_bytes, schema_name}
 use Rattle.voy_command.specs.Recorded.{recorded_schema}
 use Rattle.voy_command.proofs.DryRunLaws.{file_there}

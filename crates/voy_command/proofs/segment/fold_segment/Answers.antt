@@ -1,6 +1,6 @@
 use Rattle.std.proofs.Common.{◌≡◌, ap, ◌∙◌, false, List, ℕ}
 use Rattle.std.proofs.lemmas.Result.{IfErr-weaker, IfOk-weaker}
-use Rattle.voy_disk.specs.Files.{Files, bytes_now, told_at}
+use Rattle.voy_disk.specs.Files.{Files, bytes_now}
 use Rattle.voy_files.specs.Reader.{unread}
 use Rattle.voy_files.specs.declared.line_reader.LineReader.{LineReader}
 use Rattle.voy_schema.specs.declared.schema.Schema.{Schema}

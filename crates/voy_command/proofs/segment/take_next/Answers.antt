@@ -1,7 +1,6 @@
 use Rattle.std.proofs.Common.{ℕ, ◌<◌, ap, ◌∙◌, inr, length, refl, subst}
 use Rattle.voy_command.specs.Folding.{outcome_from}
 use Rattle.voy_command.specs.Segment.{without_closing}
-use Rattle.voy_disk.specs.Files.{told_at}
 use Rattle.voy_command.proofs.SegmentLaws.{long_line}
 use Rattle.voy_command.proofs.segment.take_next.Goals as goal
 

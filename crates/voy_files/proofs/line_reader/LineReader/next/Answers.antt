@@ -2,7 +2,6 @@ use Rattle.std.proofs.Common.{arith, ◌≡◌, ◌∙◌, ap, sym, [], length, 
 use Rattle.voy_files.specs.Reader.{found_line, line_limit, unread}
 use Rattle.voy_files.proofs.Finding.{finds_with, long_line}
 use Rattle.voy_files.proofs.Reading.{still_read, reads_to_feed, reads_on, fewer_left}
-use Rattle.voy_disk.specs.Files.{told_at}
 use Rattle.voy_files.proofs.Told.{told_from}
 use Rattle.voy_files.proofs.line_reader.LineReader.next.Goals as goal
 
