@@ -1,5 +1,5 @@
 pub mod Feeds
 pub mod Finding
+pub mod Lengths
 pub mod Pieces
 pub mod Reading
-pub mod Told

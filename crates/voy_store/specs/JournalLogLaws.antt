@@ -19,7 +19,7 @@ pub stands_as_known : (name : List ℕ) (place : ℕ) (files : Option Files) (im
 stands_as_known name place None image stands is = absurd is
 stands_as_known name place (Some fs) image stands is =
     let at = stands fs refl in
-    let every = stands_in_every (Some fs) name place at.0 (told_at (Some fs) (StandsAt name place at.0) at.1) in
+    let every = stands_in_every (Some fs) name place at.0 (at.1) in
     every.each image is ∙ sym (stands_known fs name place at.0 at.1)
 
 -- where it stands, the history in each image is the one that is told
