@@ -1,11 +1,11 @@
 -- What the making and the settling of a journal's file leave.
 use Rattle.std.proofs.Common.{◌≡◌, ◌≤◌, ◌⊎◌, inl, inr, ℕ, List, [], ◌∷◌, Option, Some, None, Result, Ok, Err, length, refl, sym, ap, ◌∙◌, arith}
 use Rattle.std.proofs.lemmas.Option.{none-some}
-use Rattle.std.specs.Prelude.{OnOk}
+use Rattle.std.specs.Prelude.{OnOk, unwrap_or}
 use Rattle.voy_disk.specs.Calls.{Change, Changes, Created, DoneOrNot, Leaves, SameOutside, SyncFailed, Synced, or_empty}
 use Rattle.voy_disk.specs.File.{File, settled}
 use Rattle.voy_disk.specs.FileLaws.{one_image}
-use Rattle.voy_disk.specs.Files.{Files, IfTold, bytes_now}
+use Rattle.voy_disk.specs.Files.{Files, IfTold, bytes_now, length_of}
 use Rattle.voy_disk.specs.ImageLaws.{file_same, image_there}
 use Rattle.voy_disk.specs.Images.{Image, ImagesOf, Makes, StepAt, bytes_in}
 use Rattle.voy_disk.specs.Steps.{Follows, Same}
@@ -17,8 +17,8 @@ use Rattle.voy_journal.specs.GrammarLaws.{payloads_read}
 use Rattle.voy_journal.specs.Journal.{KeepsPayloads, StandsAt, payloads_in}
 use Rattle.voy_disk.specs.CallLaws.{create_follows}
 use Rattle.voy_disk.specs.Frames.{KeepsOtherFiles}
-use Rattle.voy_disk.specs.SafeFiles.{Rewrites, Settles}
-use Rattle.voy_disk.specs.ChangeLaws.{at_new, change_on, change_weaker, no_change}
+use Rattle.voy_disk.specs.SafeFiles.{KeepsBytesNow, Rewrites, Settles}
+use Rattle.voy_disk.specs.ChangeLaws.{at_new, at_old, change_on, change_weaker, no_change}
 
 -- an empty file that was made has no payload, as the absent one
 keeps_making : (name : List ℕ) (i j : Image) → Same i j ⊎ Makes name i j → KeepsPayloads name i j
@@ -35,6 +35,17 @@ keeps_making name i j (inr makes) = record {
 pub created_keeps : {T : Type 0} (result : Result T DiskError) (name : List ℕ) (old new : Option Files)
     → Leaves result (Created name) (DoneOrNot (Created name)) old new → Follows (KeepsPayloads name) (ImagesOf old) (ImagesOf new)
 created_keeps result name old new created = follows_weaker (create_follows result name old new created) (keeps_making name)
+
+length_or_none : (found : Option File) → unwrap_or (length_of found) 0 ≡ length (bytes_now found)
+length_or_none None = refl
+length_or_none (Some file) = refl
+
+-- a file that reads as before has the length that is read afterwards
+pub length_read : (name : List ℕ) (a b : Option Files) (found : Option ℕ) (end : ℕ) → Change (KeepsBytesNow name) a b
+    → IfTold b (λ fs. found ≡ length_of (fs name)) → end ≡ unwrap_or found 0 → IfTold a (λ fs. end ≡ length (bytes_now (fs name)))
+length_read name a b found end keeps reads is x known =
+    let new = at_old keeps x known in
+    is ∙ ap (λ (length : Option ℕ). unwrap_or length 0) (reads new.0 new.1) ∙ length_or_none (new.0 name) ∙ ap length new.2
 
 -- the file is safe, and has so many bytes
 pub record IsSettledTo (name : List ℕ) (end : ℕ) (files : Files) : Type 0 where
