@@ -5,7 +5,7 @@ use Rattle.voy_files.proofs.Pieces.{moved_before}
 use Rattle.voy_files.proofs.whole.read_file.Goals as goal
 
 pub returns-in_default-clause-whole : goal.returns-in_default-clause-whole
-returns-in_default-clause-whole g c = (λ fs is. (rw c.in_default.is at c.in_ok-reader.ensures.absent) fs is)
+returns-in_default-clause-whole g c = rw c.in_default.is at c.in_ok-reader.ensures.absent
 
 pub pieces-init : goal.pieces-init
 pieces-init g c = record {

@@ -14,4 +14,4 @@ returns-clause-left g c =
     c.in_ok-some.ensures.held (c.in_ok-some.ensures.none fs is) (c.in_ok-some.ensures.unread fs is))
 
 pub returns-clause-unread : goal.returns-clause-unread
-returns-clause-unread g c = (λ fs is. c.in_ok-some.ensures.unread fs is)
+returns-clause-unread g c = c.in_ok-some.ensures.unread
