@@ -100,9 +100,9 @@ created_in_each x y name created = record {
         was = step.was;
         by = in_turn_one Creates name step.before j (elim step.by [
           | inl same ↦ record {
-              is = here ∙ ap (λ (image : Image). Some (bytes_in (image name))) same;
-              others = λ other differs. ap (λ (image : Image). image other) same;
-            }
+            is = here ∙ ap (λ (image : Image). Some (bytes_in (image name))) same;
+            others = λ other differs. ap (λ (image : Image). image other) same;
+          }
           | inr makes ↦ makes_creates name step.before j makes
         ]);
       };

@@ -1,8 +1,8 @@
 -- Laws of changes of the files of a disk, which tells them or does not.
-use Rattle.std.proofs.Common.{◌≡◌, ℕ, List, Option, Some, None, Result, Ok, Err, refl, sym, ap, ◌∙◌, inl, inr, subst}
+use Rattle.std.proofs.Common.{◌≡◌, ℕ, List, Option, Some, None, Result, Ok, Err, refl, ap, ◌∙◌, inl, inr, subst}
 use Rattle.voy_disk.specs.Calls.{Change, Changes, Created, DoneOrNot, Leaves, Renamed, told, untold}
 use Rattle.voy_disk.specs.File.{File}
-use Rattle.voy_disk.specs.Files.{Files, IfTold}
+use Rattle.voy_disk.specs.Files.{Files}
 use Rattle.voy_disk.specs.Frames.{EitherOf, KeepsBeside, KeepsOtherFiles, OneName}
 use Rattle.voy_disk.specs.declared.disk.DiskError.{DiskError}
 use Rattle.voy_disk.specs.declared.disk.DiskError.TheVariants.{Failed, NoMemory}

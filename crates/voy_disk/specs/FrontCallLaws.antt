@@ -1,5 +1,5 @@
 -- Laws of the calls of a disk: what is done behind a front leaves it in each image, whatever the call answers.
-use Rattle.std.proofs.Common.{◌≤◌, ◌-◌, ◌∙◌, ℕ, List, Option, Some, Result, Ok, Err, length, refl, ap, take}
+use Rattle.std.proofs.Common.{◌≤◌, ◌-◌, ◌∙◌, ℕ, List, Option, Result, Ok, Err, length, refl, take}
 use Rattle.voy_disk.specs.CallLaws.{sync_follows}
 use Rattle.voy_disk.specs.Calls.{Change, Changes, CutFailed, Leaves, Smeared, SyncFailed, Synced, WasCut, Wrote, told, untold}
 use Rattle.voy_disk.specs.File.{File, written}
@@ -7,7 +7,7 @@ use Rattle.voy_disk.specs.Files.{Files, IfTold, ReadsImages}
 use Rattle.voy_disk.specs.FrontLaws.{TouchedFrom, front_stays, same_keeps_front}
 use Rattle.voy_disk.specs.Fronts.{HasFront, KeepsFront}
 use Rattle.voy_disk.specs.ImageLaws.{same_files}
-use Rattle.voy_disk.specs.Images.{Image, ImagesOf, bytes_in}
+use Rattle.voy_disk.specs.Images.{Image, ImagesOf}
 use Rattle.voy_disk.specs.Steps.{Follows}
 use Rattle.voy_disk.specs.StepLaws.{every_along}
 use Rattle.voy_disk.specs.declared.disk.DiskError.{DiskError}

@@ -1,20 +1,18 @@
 -- Laws of fronts: what is the same in every image is touched by no range, and what is done behind it leaves it so.
-use Rattle.std.proofs.Common.{◌≡◌, ◌≢◌, ◌≤◌, ◌<◌, ◌+◌, ◌-◌, ◌⊎◌, inl, inr, ℕ, zero, suc, Bool, true, false, List, [], ◌∷◌, ◌++◌, Option, Some, None, Result, Ok, Err, length, take, refl, sym, ap, ◌∙◌, arith, subst, nat_lt, nat_le}
+use Rattle.std.proofs.Common.{◌≡◌, ◌≢◌, ◌≤◌, ◌<◌, ◌+◌, ◌⊎◌, inl, inr, ℕ, zero, suc, Bool, true, false, List, [], ◌∷◌, Some, length, take, refl, sym, ap, ◌∙◌, arith, subst, nat_lt, nat_le}
 use Rattle.std.proofs.lemmas.Bool.Decides.{nat_tests}
 use Rattle.std.proofs.lemmas.List.{length-take}
-use Rattle.std.specs.Prelude.{IfSome, min, slice_get}
-use Rattle.voy_disk.specs.Calls.{Changes, CutFailed, Leaves, Smeared, WasCut, Wrote}
-use Rattle.voy_disk.specs.File.{File, IsImage, Outside, Untouched, touch, written}
-use Rattle.voy_disk.specs.FileLaws.{IsFrontSettled, front_in_all, some_same, touched_behind}
+use Rattle.std.specs.Prelude.{slice_get}
+use Rattle.voy_disk.specs.Calls.{Changes}
+use Rattle.voy_disk.specs.File.{File, IsImage, Outside, Untouched, touch}
+use Rattle.voy_disk.specs.FileLaws.{IsFrontSettled, front_in_all, touched_behind}
 use Rattle.voy_disk.specs.FileStepLaws.{follows_file}
 use Rattle.voy_disk.specs.Files.{Files, ReadsImages}
 use Rattle.voy_disk.specs.Fronts.{HasFront, KeepsFront}
-use Rattle.voy_disk.specs.ImageLaws.{at_each_name, if_some_at, is_image_at, now_at, now_is_an_image, same_files, with_file_elsewhere, with_file_there}
-use Rattle.voy_disk.specs.Images.{Image, ImagesOf, IsImageAt, IsImageOf, StepAt, bytes_in, now_image, with_file}
-use Rattle.voy_disk.specs.Steps.{Every, Follows, Same}
-use Rattle.voy_disk.specs.StepLaws.{every_along, follows_weaker}
-use Rattle.voy_disk.specs.declared.disk.DiskError.{DiskError}
-use Rattle.voy_disk.specs.declared.disk.DiskError.TheVariants.{Failed, NoMemory}
+use Rattle.voy_disk.specs.ImageLaws.{at_each_name, if_some_at, is_image_at, now_at, with_file_elsewhere, with_file_there}
+use Rattle.voy_disk.specs.Images.{Image, IsImageAt, IsImageOf, StepAt, bytes_in, now_image, with_file}
+use Rattle.voy_disk.specs.Steps.{Follows, Same}
+use Rattle.voy_disk.specs.StepLaws.{follows_weaker}
 
 -- ---- one file
 

@@ -9,7 +9,7 @@ use Rattle.voy_disk.specs.FileLaws.{changed_within, same_front}
 use Rattle.voy_disk.specs.FileStepLaws.{follows_file}
 use Rattle.voy_disk.specs.Files.{Files, IfTold, bytes_now}
 use Rattle.voy_disk.specs.ImageLaws.{file_same, follows_told, image_there}
-use Rattle.voy_disk.specs.Images.{Image, ImagesOf, IsImageOf, StepAt}
+use Rattle.voy_disk.specs.Images.{ImagesOf, IsImageOf, StepAt}
 use Rattle.voy_disk.specs.SafeFiles.{IsSafeFile, KeepsBytesNow, KeepsFrontNow, Rewrites, Settles}
 use Rattle.voy_disk.specs.Steps.{Follows}
 use Rattle.voy_disk.specs.declared.disk.DiskError.{DiskError}

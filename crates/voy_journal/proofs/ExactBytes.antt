@@ -1,5 +1,5 @@
 -- Laws of the exact bytes that the calls of a journal leave.
-use Rattle.std.proofs.Common.{◌≡◌, ◌≤◌, ◌<◌, ◌+◌, ℕ, suc, true, false, List, [], ◌∷◌, ◌++◌, Option, Some, None, Result, Ok, Err, length, length-append, take, drop, nat_le, refl, sym, ap, ◌∙◌, arith}
+use Rattle.std.proofs.Common.{◌≡◌, ◌≤◌, ◌<◌, ◌+◌, ℕ, suc, true, false, List, [], ◌∷◌, ◌++◌, Option, Some, Result, Ok, Err, length, length-append, take, drop, nat_le, refl, sym, ap, ◌∙◌, arith}
 use Rattle.std.proofs.lemmas.Bool.Decides.{nat_tests}
 use Rattle.std.proofs.lemmas.List.{drop_at, length-take-le, take-append-le, take-take}
 use Rattle.std.specs.Prelude.{OnOk}
@@ -79,8 +79,13 @@ written_twice bytes block place byte within =
 gate_within : (name : List ℕ) (gate : ℕ) (fs : Files) (safe : List ℕ) → Stands name gate fs
     → fs name ≡ Some (settled safe) → gate + 1 ≤ length safe
 gate_within name gate fs safe (payloads, at) is =
-    omega (arith, at.at, ap (λ (file : File). length file.now) (file_same (sym is ∙ at.file)), ap length at.holds.split,
-    length-append (entries payloads) (at.holds.gate ∷ at.holds.rest))
+    omega (
+      arith,
+      at.at,
+      ap (λ (file : File). length file.now) (file_same (sym is ∙ at.file)),
+      ap length at.holds.split,
+      length-append (entries payloads) (at.holds.gate ∷ at.holds.rest),
+    )
 
 -- the block behind the gate, and then the gate
 pub wrote_both : (name : List ℕ) (gate : ℕ) (block : List ℕ) (a b c : Option Files) → IfTold a (Stands name gate)

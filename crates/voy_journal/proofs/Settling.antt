@@ -1,24 +1,22 @@
 -- What the making and the settling of a journal's file leave.
-use Rattle.std.proofs.Common.{◌≡◌, ◌≤◌, ◌⊎◌, inl, inr, ℕ, List, [], ◌∷◌, Option, Some, None, Result, Ok, Err, length, refl, sym, ap, ◌∙◌, arith}
+use Rattle.std.proofs.Common.{◌≡◌, ◌≤◌, ◌⊎◌, inl, inr, ℕ, List, [], ◌∷◌, Option, Some, None, Result, length, refl, sym, ap, ◌∙◌, arith}
 use Rattle.std.proofs.lemmas.Option.{none-some}
-use Rattle.std.specs.Prelude.{OnOk, unwrap_or}
-use Rattle.voy_disk.specs.Calls.{Change, Changes, Created, DoneOrNot, Leaves, SameOutside, SyncFailed, Synced, or_empty}
+use Rattle.std.specs.Prelude.{unwrap_or}
+use Rattle.voy_disk.specs.Calls.{Change, Created, DoneOrNot, Leaves, SameOutside}
 use Rattle.voy_disk.specs.File.{File, settled}
 use Rattle.voy_disk.specs.FileLaws.{one_image}
 use Rattle.voy_disk.specs.Files.{Files, IfTold, bytes_now, length_of}
-use Rattle.voy_disk.specs.ImageLaws.{file_same, image_there}
+use Rattle.voy_disk.specs.ImageLaws.{image_there}
 use Rattle.voy_disk.specs.Images.{Image, ImagesOf, Makes, StepAt, bytes_in}
 use Rattle.voy_disk.specs.Steps.{Follows, Same}
 use Rattle.voy_disk.specs.StepLaws.{follows_weaker}
 use Rattle.voy_disk.specs.declared.disk.DiskError.{DiskError}
-use Rattle.voy_disk.specs.declared.disk.DiskError.TheVariants.{Failed, NoMemory}
 use Rattle.voy_journal.specs.Grammar.{payloads_of}
 use Rattle.voy_journal.specs.GrammarLaws.{payloads_read}
 use Rattle.voy_journal.specs.Journal.{KeepsPayloads, StandsAt, payloads_in}
 use Rattle.voy_disk.specs.CallLaws.{create_follows}
-use Rattle.voy_disk.specs.Frames.{KeepsOtherFiles}
 use Rattle.voy_disk.specs.SafeFiles.{KeepsBytesNow, Rewrites, Settles}
-use Rattle.voy_disk.specs.ChangeLaws.{at_new, at_old, change_on, change_weaker, no_change}
+use Rattle.voy_disk.specs.ChangeLaws.{at_new, at_old}
 
 -- an empty file that was made has no payload, as the absent one
 keeps_making : (name : List ℕ) (i j : Image) → Same i j ⊎ Makes name i j → KeepsPayloads name i j

@@ -1,7 +1,6 @@
 -- Laws of the first payload that is refused.
 use Rattle.std.proofs.Common.{◌≡◌, ◌+◌, ℕ, zero, suc, List, [], ◌∷◌, Option, Some, None, length, length-append, take, refl, subst, sym, ap, ◌∙◌, arith}
-use Rattle.std.specs.Option.{option_and_then, option_map}
-use Rattle.std.specs.Prelude.{slice_get}
+use Rattle.std.specs.Option.{option_map}
 use Rattle.std.proofs.lemmas.Option.{none-some}
 use Rattle.voy_journal.specs.Grammar.{entries, gate_of}
 use Rattle.voy_journal.specs.Refusals.{IsFirstRefused, first_refused, knows_after, refused_from, refused_gate}

@@ -1,5 +1,5 @@
 use Rattle.std.proofs.Common.{arith, ◌∙◌, sym, drop, take}
-use Rattle.voy_disk.specs.Files.{Reads, bytes_now}
+use Rattle.voy_disk.specs.Files.{bytes_now}
 use Rattle.voy_files.proofs.Pieces.{cut_behind, piece_and_rest, used_up}
 use Rattle.voy_files.proofs.byte_reader.ByteReader.fill.Goals as goal
 
