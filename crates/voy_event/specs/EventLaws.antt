@@ -22,12 +22,13 @@ use Rattle.voy_tables.specs.declared.change.Change.TheVariants as change
 use Rattle.voy_tables.specs.declared.change.Role.{Role}
 use Rattle.voy_tables.specs.declared.change.Role.TheVariants as exporter
 use Rattle.voy_event.specs.ChangeLine.{PlacedTable, change_of, has_long_row, placed, table_named}
-use Rattle.voy_event.specs.InTurn.{change_event, cutover_event, cutover_vsn, document_reading, kind_reading, known_reading, named_reading, stamped, table_reading, within_limit}
+use Rattle.voy_event.specs.InTurn.{change_event, cutover_event, cutover_vsn, document_in_turn, kind_in_turn, known_in_turn, named_in_turn, stamped, table_in_turn, within_limit}
 use Rattle.voy_event.specs.InTurnLaws.{line_is_in_turn}
 use Rattle.voy_event.specs.EventLine.{change_event_names, cutover_names, from_one, has_exporter, line_reading, max_event_line_bytes, vsn_at}
 use Rattle.voy_event.specs.Fields.{agrees_at, is_key_of_row, only_if, row_at, row_of, row_with_key}
 use Rattle.voy_event.specs.LawfulEvent.{IsLawful, IsLawfulChange, IsLawfulFrom, IsWritable, IsWritableWhat}
-use Rattle.voy_event.specs.Words.{event_kind, in_64_bits, number_at, role_at, text_at}
+use Rattle.voy_event.specs.Words.{event_kind, in_64_bits, number_at, role_at}
+use Rattle.voy_schema.specs.Stated.{text_at}
 use Rattle.voy_event.specs.declared.event.Event.{Event}
 use Rattle.voy_event.specs.declared.event.What.{What}
 use Rattle.voy_event.specs.declared.event.What.TheVariants as what
@@ -120,23 +121,23 @@ placed_stands tables (Some place) t found = by_table (slice_get tables place) re
 
 known_stands : (tables : List Table) (d : Data) (o : Option PlacedTable) (t : PlacedTable)
     → ((u : PlacedTable) → o ≡ Some u → slice_get tables u.place ≡ Some u.table)
-    → known_reading d o ≡ Ok t → slice_get tables t.place ≡ Some t.table
+    → known_in_turn d o ≡ Ok t → slice_get tables t.place ≡ Some t.table
 known_stands tables d None t stands read = cc
 known_stands tables d (Some u) t stands read =
     let same : u ≡ t = let ok = (before_refusal _ _ (Ok u) t read).1 in cc in
     subst (λ (p : PlacedTable). slice_get tables p.place ≡ Some p.table) same (stands u refl)
 
 named_stands : (tables : List Table) (d : Data) (schema_name table_name : Option (List ℕ)) (t : PlacedTable)
-    → named_reading tables d schema_name table_name ≡ Ok t → slice_get tables t.place ≡ Some t.table
+    → named_in_turn tables d schema_name table_name ≡ Ok t → slice_get tables t.place ≡ Some t.table
 named_stands tables d None table_name t read = cc
 named_stands tables d (Some s) None t read = cc
 named_stands tables d (Some s) (Some n) t read =
     known_stands tables d (table_named tables s n) t (λ u found. placed_stands tables (place_of s n tables) u found) read
 
 pub table_stands : (tables : List Table) (names : List (List ℕ)) (d : Data) (t : PlacedTable)
-    → table_reading tables names d ≡ Ok t → slice_get tables t.place ≡ Some t.table
+    → table_in_turn tables names d ≡ Ok t → slice_get tables t.place ≡ Some t.table
 table_stands tables names d t read =
-    let named = named_reading tables d (text_at (codes "schema_name") d) (text_at (codes "table_name") d) in
+    let named = named_in_turn tables d (text_at (codes "schema_name") d) (text_at (codes "table_name") d) in
     let known = past_test (not (has_names names d)) why.Missing (if not (has_only_names names d) then Err why.Unknown else named) t read in
     named_stands tables d (text_at (codes "schema_name") d) (text_at (codes "table_name") d) t
     (past_test (not (has_only_names names d)) why.Unknown named t known)
@@ -196,7 +197,7 @@ limited (Some x) c read = by_test (has_long_row x) refl read where
 
 -- a change that was read by the rules that both kinds of line share
 pub change_is_lawful : (tables : List Table) (names : List (List ℕ)) (op : Op) (d : Data) (t : PlacedTable) (c : Change)
-    → table_reading tables names d ≡ Ok t → within_limit (change_of op t d) ≡ Ok c → IsLawfulChange tables c
+    → table_in_turn tables names d ≡ Ok t → within_limit (change_of op t d) ≡ Ok c → IsLawfulChange tables c
 change_is_lawful tables names op d t c placed read =
     let parts = limited (change_of op t d) c read in
     record { well_formed = change_is_well_formed tables op t d c (table_stands tables names d t placed) parts.0; short = parts.1 }
@@ -235,7 +236,7 @@ stamped_is_lawful tables (Some n) (Some role) (Ok c) e numbered well made =
     subst (IsLawful tables) same (record { from_one = range.0; fits = range.1; what = well c refl })
 
 change_event_is_lawful : (tables : List Table) (op : Op) (d : Data) (t : Result PlacedTable LineWhy) (e : Event)
-    → table_reading tables change_event_names d ≡ t → change_event op d t ≡ Ok e → IsLawful tables e
+    → table_in_turn tables change_event_names d ≡ t → change_event op d t ≡ Ok e → IsLawful tables e
 change_event_is_lawful tables op d (Err cause) e placed made = cc
 change_event_is_lawful tables op d (Ok t) e placed made =
     stamped_is_lawful tables (vsn_at d) (role_at d) (within_limit (change_of op t d)) e
@@ -261,15 +262,15 @@ cutover_is_lawful tables role w (Ok n) e numbered fits made =
     let range = numbered n refl in
     subst (IsLawful tables) same (record { from_one = range.0; fits = range.1; what = fits })
 
-kind_is_lawful : (tables : List Table) (d : Data) (k : Option EventKind) (e : Event) → kind_reading tables d k ≡ Ok e → IsLawful tables e
+kind_is_lawful : (tables : List Table) (d : Data) (k : Option EventKind) (e : Event) → kind_in_turn tables d k ≡ Ok e → IsLawful tables e
 kind_is_lawful tables d None e read = cc
-kind_is_lawful tables d (Some (kind.Change op)) e read = change_event_is_lawful tables op d (table_reading tables change_event_names d) e refl read
+kind_is_lawful tables d (Some (kind.Change op)) e read = change_event_is_lawful tables op d (table_in_turn tables change_event_names d) e refl read
 kind_is_lawful tables d (Some kind.CutoverTarget) e read =
     cutover_is_lawful tables exporter.Source what.CutoverTarget (cutover_vsn exporter.Source d) e (cutover_vsn_holds exporter.Source d) refl read
 kind_is_lawful tables d (Some kind.CutoverSource) e read =
     cutover_is_lawful tables exporter.Target what.CutoverSource (cutover_vsn exporter.Target d) e (cutover_vsn_holds exporter.Target d) refl read
 
-pub document_is_lawful : (tables : List Table) (o : Option Data) (e : Event) → document_reading tables o ≡ Ok e → IsLawful tables e
+pub document_is_lawful : (tables : List Table) (o : Option Data) (e : Event) → document_in_turn tables o ≡ Ok e → IsLawful tables e
 document_is_lawful tables None e read = cc
 document_is_lawful tables (Some d) e read = kind_is_lawful tables d (event_kind d) e (before_refusal (is_object d) why.NotJson _ e read).1
 
@@ -284,7 +285,7 @@ line_is_short tables line e read =
     by_length (nat_lt max_event_line_bytes (length line)) refl (sym (line_is_in_turn tables line) ∙ read)
   where
     by_length : (b : Bool) → nat_lt max_event_line_bytes (length line) ≡ b
-        → (if b then Err why.TooLong else document_reading tables (data_of_bytes line)) ≡ Ok e → length line ≤ max_event_line_bytes
+        → (if b then Err why.TooLong else document_in_turn tables (data_of_bytes line)) ≡ Ok e → length line ≤ max_event_line_bytes
     by_length true long never = cc
     by_length false short same = ltb-false max_event_line_bytes (length line) short
 

@@ -1,7 +1,7 @@
 ghost use Rattle.std.specs.Prelude.{◌≡◌, IfOk, IfErr, map, option_map};
 ghost use Rattle.serde_json.specs.View.{view};
 ghost use Rattle.voy_event.specs.ChangeLine.{change_of, has_known_columns, has_long_row, seen, table_named};
-ghost use Rattle.voy_event.specs.InTurn.{table_reading, within_limit};
+ghost use Rattle.voy_event.specs.InTurn.{table_in_turn, within_limit};
 ghost use Rattle.voy_event.specs.Refusal.{Refuses};
 
 use crate::fields::{has_only_columns, is_null, row_at};
@@ -27,9 +27,9 @@ pub(crate) fn table_of_line<'a>(
     line: &Json,
 ) -> Result<Placed<'a>, LineWhy>
     ensures ok { IfOk result (λ placed.
-        table_reading schema.now.tables (map (λ name. name.now) names.now) (view line.now) ≡ Ok (seen placed)) }
+        table_in_turn schema.now.tables (map (λ name. name.now) names.now) (view line.now) ≡ Ok (seen placed)) }
     ensures err { IfErr result (λ cause.
-        table_reading schema.now.tables (map (λ name. name.now) names.now) (view line.now) ≡ Err cause) }
+        table_in_turn schema.now.tables (map (λ name. name.now) names.now) (view line.now) ≡ Err cause) }
 {
     if !has_all(line, names) {
         return Err(LineWhy::Missing);

@@ -1,7 +1,7 @@
 ghost use Rattle.std.specs.Prelude.{◌≡◌, Some, IfOk, IfErr};
 ghost use Rattle.serde_json.specs.View.{view};
 ghost use Rattle.voy_event.specs.EventLine.{has_exporter, line_reading, vsn_at};
-ghost use Rattle.voy_event.specs.InTurn.{cutover_vsn, document_reading, kind_reading, line_in_turn};
+ghost use Rattle.voy_event.specs.InTurn.{cutover_vsn, document_in_turn, kind_in_turn, line_in_turn};
 ghost use Rattle.voy_event.specs.LawfulEvent.{IsLawful};
 ghost use Rattle.voy_event.specs.Refusal.{Refuses};
 
@@ -59,8 +59,8 @@ fn read_in_turn(alloc: Global, schema: &Schema, bytes: &[u8]) -> Result<Event, L
 
 fn read_document(alloc: Global, schema: &Schema, line: &Json) -> Result<Event, LineError>
     ensures ok { IfOk result (λ event.
-        document_reading schema.now.tables (Some (view line.now)) ≡ Ok event) }
-    ensures err { IfErr result (Refuses (document_reading schema.now.tables (Some (view line.now)))) }
+        document_in_turn schema.now.tables (Some (view line.now)) ≡ Ok event) }
+    ensures err { IfErr result (Refuses (document_in_turn schema.now.tables (Some (view line.now)))) }
 {
     if !line.is_object() {
         return Err(LineError::Bad(LineWhy::NotJson));
@@ -89,9 +89,9 @@ fn read_change_event(
     line: &Json,
 ) -> Result<Event, LineError>
     ensures ok { IfOk result (λ event.
-        kind_reading schema.now.tables (view line.now) (Some (EventKind.Change op)) ≡ Ok event) }
+        kind_in_turn schema.now.tables (view line.now) (Some (EventKind.Change op)) ≡ Ok event) }
     ensures err { IfErr result
-        (Refuses (kind_reading schema.now.tables (view line.now) (Some (EventKind.Change op)))) }
+        (Refuses (kind_in_turn schema.now.tables (view line.now) (Some (EventKind.Change op)))) }
 {
     let placed = match table_of_line(schema, &CHANGE_EVENT_NAMES, line) {
         Ok(placed) => placed,

@@ -2,7 +2,8 @@ ghost use Rattle.std.specs.Prelude.{◌≡◌, ◌++◌, slice_get, IfOk, OnOk, 
 ghost use Rattle.serde_json.specs.View.{members_view, view};
 ghost use Rattle.voy_schema.specs.Rows.{text_of, value_at};
 ghost use Rattle.voy_event.specs.LawfulEvent.{IsWritable, IsWritableChange};
-ghost use Rattle.voy_event.specs.LineText.{after_data, before_data, change_data, cutover_data, event_data, key_data, keyed_row, line_text, op_text, row_data, table_of, value_data, with_text};
+ghost use Rattle.voy_event.specs.LineText.{after_data, before_data, change_data, cutover_data, event_data, key_data, keyed_row, line_text, op_text, row_data, value_data, with_text};
+ghost use Rattle.voy_tables.specs.Changes.{table_of};
 
 use crate::event::{Event, What};
 use crate::fields::text_in;
@@ -47,19 +48,9 @@ fn table_of<'a>(schema: &'a Schema, change: &Change) -> &'a Table
     requires { IsWritableChange schema.now.tables change.now }
     ensures { slice_get schema.now.tables (table_of change.now) ≡ Some result.now }
 {
-    match schema.tables.get(place_of_table(change) as usize) {
+    match schema.tables.get(change.table() as usize) {
         Some(table) => table,
         None => unreachable!(),
-    }
-}
-
-fn place_of_table(change: &Change) -> u32
-    ensures { result ≡ table_of change.now }
-{
-    match change {
-        Change::Insert { table, .. } => *table,
-        Change::Update { table, .. } => *table,
-        Change::Delete { table, .. } => *table,
     }
 }
 

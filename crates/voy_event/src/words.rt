@@ -1,6 +1,7 @@
 ghost use Rattle.std.specs.Prelude.{◌≡◌, option_map};
 ghost use Rattle.serde_json.specs.View.{view};
-ghost use Rattle.voy_event.specs.Words.{change_op, event_kind, kind_of_text, number_at, op_of_text, role_at, role_of_text, text_at, text_of_role};
+ghost use Rattle.voy_event.specs.Words.{change_op, event_kind, kind_of_text, number_at, op_of_text, role_at, role_of_text, text_of_role};
+ghost use Rattle.voy_schema.specs.Stated.{text_at};
 
 use serde_json::Value as Json;
 use voy_tables::Role;
