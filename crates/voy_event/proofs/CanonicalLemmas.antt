@@ -118,7 +118,7 @@ RowsAreLawful t (change.Insert table after) = is_lawful_row t after ≡ true
 RowsAreLawful t (change.Update table before after) = (is_lawful_row t before ≡ true) × (is_lawful_row t after ≡ true)
 RowsAreLawful t (change.Delete table before) = is_lawful_row t before ≡ true
 
-values_of : (t : Table) (row : List Value) → is_lawful_row t row ≡ true → has_lawful_values t.columns row ≡ true
+pub values_of : (t : Table) (row : List Value) → is_lawful_row t row ≡ true → has_lawful_values t.columns row ≡ true
 values_of t row lawful = (and_parts (has_lawful_values t.columns row) _ lawful).0
 
 row_is_canonical : (t : Table) (row : List Value) → LawfulParts t → is_lawful_row t row ≡ true → IsCanonical (row_data t.columns row)

@@ -22,7 +22,7 @@ use Rattle.voy_tables.specs.declared.change.Change.{Change}
 use Rattle.voy_tables.specs.declared.change.Change.TheVariants as change
 use Rattle.voy_tables.specs.declared.change.Role.{Role}
 use Rattle.voy_tables.specs.declared.change.Role.TheVariants as exporter
-use Rattle.voy_event.proofs.CanonicalLemmas.{RowsAreLawful, change_is_canonical, change_is_shallow, cutover_is_canonical, cutover_is_shallow}
+use Rattle.voy_event.proofs.CanonicalLemmas.{RowsAreLawful, change_is_canonical, change_is_shallow, cutover_is_canonical, cutover_is_shallow, values_of}
 use Rattle.voy_event.proofs.KeyLemmas.{agrees-same_key, agrees-with_texts, key_names_are_known, key_names_are_of_key}
 use Rattle.voy_event.proofs.MemberLemmas.{columns_are_known, names_of-with_columns, row_of-with_columns, same_text}
 use Rattle.voy_event.specs.ChangeLine.{PlacedTable, change_of, has_known_columns, has_long_row, placed, table_named}
@@ -97,9 +97,6 @@ kind_there t vsn role (change.Delete table before) = refl
 
 only_if-passes : (p : List Value → Bool) (row : List Value) → p row ≡ true → only_if p (Some row) ≡ Some row
 only_if-passes p row passes = rw passes refl
-
-values_of : (t : Table) (row : List Value) → is_lawful_row t row ≡ true → has_lawful_values t.columns row ≡ true
-values_of t row lawful = (and_parts (has_lawful_values t.columns row) _ lawful).0
 
 key_agrees : (t : Table) (keyed row : List Value) → LawfulParts t → map text_of (values_at keyed t.primary_key) ≡ map text_of (values_at row t.primary_key)
     → is_key_of_row t (key_data t keyed) row ≡ true

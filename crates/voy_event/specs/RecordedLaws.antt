@@ -9,7 +9,7 @@ use Rattle.voy_tables.specs.declared.change.Change.{Change}
 use Rattle.voy_event.specs.ChangeLine.{PlacedTable, change_of}
 use Rattle.voy_event.specs.InTurn.{recorded_change, recorded_document_in_turn, recorded_op_in_turn, spotted, table_in_turn, within_limit}
 use Rattle.voy_event.specs.InTurnLaws.{recorded_is_in_turn}
-use Rattle.voy_event.specs.EventLaws.{before_refusal, change_is_lawful, past_test}
+use Rattle.voy_event.specs.ChangeLaws.{before_refusal, change_is_lawful, past_test}
 use Rattle.voy_event.specs.LawfulEvent.{IsLawfulChange}
 use Rattle.voy_event.specs.RecordedLine.{max_recorded_line_bytes, recorded_names, recorded_line_reading}
 use Rattle.voy_event.specs.Words.{change_op, number_at}
