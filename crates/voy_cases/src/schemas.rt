@@ -106,6 +106,9 @@ fn push_table(table: &Table, to: &mut String) -> Result<(), Trouble> {
     push_columns(table, table.primary_key.as_slice(), to)?;
     for key in table.unique_keys.as_slice() {
         to.push_str("; unique")?;
+        if key.nulls_not_distinct {
+            to.push_str(" with NULLs equal:")?;
+        }
         push_columns(table, key.columns.as_slice(), to)?;
     }
     to.push(')')?;

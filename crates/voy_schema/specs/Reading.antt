@@ -93,7 +93,7 @@ abbrev pub places_of : List StatedColumn → List (List ℕ) → List ℕ
 places_of columns key = map (place_in columns) key
 
 abbrev pub unique_key_of : List StatedColumn → StatedKey → UniqueKey
-unique_key_of columns k = record { columns = places_of columns k.columns }
+unique_key_of columns k = record { columns = places_of columns k.columns; nulls_not_distinct = k.nulls_not_distinct }
 
 -- the table that is stated, its keys by the places of their columns
 abbrev pub table_of : StatedTable → Table

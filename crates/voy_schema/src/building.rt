@@ -64,7 +64,10 @@ fn unique_keys_of(
     let mut found = Items::new(alloc);
     for key in keys {
         let columns = places_of(alloc, columns, key.columns.as_slice())?;
-        found.push(UniqueKey { columns })?;
+        found.push(UniqueKey {
+            columns,
+            nulls_not_distinct: key.nulls_not_distinct,
+        })?;
     }
     Ok(found)
 }

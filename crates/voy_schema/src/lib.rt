@@ -15,11 +15,9 @@
 mod abbreviating;
 mod building;
 mod copying;
-mod distinct;
 mod items;
 mod json;
 mod kinds;
-mod lawful;
 mod limits;
 mod names;
 mod numbers;

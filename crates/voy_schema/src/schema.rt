@@ -1,10 +1,9 @@
-ghost use Rattle.std.specs.Prelude.{◌≡◌, ◌<◌, true, false, length, slice_get, IfErr, IfOk, IfSome, MatchOption};
+ghost use Rattle.std.specs.Prelude.{◌≡◌, ◌<◌, true, false, length, slice_get, IfErr, IfOk, IfSome};
 ghost use Rattle.std.specs.Option.{option_copied};
 ghost use Rattle.voy_schema.specs.Lawful.{is_lawful, is_lawful_table, place_of};
 ghost use Rattle.voy_schema.specs.Reading.{RefusesTables, schema_reading};
 
 use crate::copying::Copies;
-use crate::lawful;
 use crate::reading::read_schema;
 use crate::table::{Table, Tables};
 use crate::why::SchemaError;
@@ -20,18 +19,6 @@ pub struct Schema {
 }
 
 impl Schema {
-    /// The schema with these tables, with no memory taken. `None` where a limit, the form of a name or
-    /// the rule of a key is broken, or two tables have both names in common.
-    pub fn new(tables: Tables) -> Option<Schema>
-        ensures { MatchOption result (is_lawful tables ≡ false) (λ s. s.tables ≡ tables) }
-    {
-        if lawful::is_lawful(tables.as_slice()) {
-            Some(Schema { tables })
-        } else {
-            None
-        }
-    }
-
     /// The schema that the bytes of `schema.json` state.
     ///
     /// `SchemaError::Bad` comes exactly where a rule is broken. The document itself is tried first, then
