@@ -8,3 +8,4 @@ pub mod Reading
 pub mod TextLaws
 pub mod Abbreviations
 pub mod AbbreviationLaws
+pub mod EqualLaws
