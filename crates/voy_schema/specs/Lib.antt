@@ -3,6 +3,7 @@ pub mod Values
 pub mod Rows
 pub mod Lending
 pub mod LawfulLaws
+pub mod Parts
 pub mod Stated
 pub mod Reading
 pub mod TextLaws

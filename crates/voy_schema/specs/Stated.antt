@@ -2,7 +2,8 @@
 use Rattle.std.specs.Prelude.{ℕ, Bool, false, List, [], ◌∷◌, ◌&&◌, Option, Some, None, option_and_then, codes, if◌then◌else◌}
 use Rattle.serde_json.specs.Data.{Data, Items, no_items, item}
 use Rattle.serde_json.specs.Find.{as_array, as_bool, as_str, get}
-use Rattle.voy_json.specs.Document.{has_names, has_only_names, is_object}
+use Rattle.voy_json.specs.Document.{has_names, has_only_names, is_object, text_at}
+use Rattle.voy_schema.specs.Parts.{in_front}
 use Rattle.voy_schema.specs.declared.stated.StatedColumn.{StatedColumn}
 use Rattle.voy_schema.specs.declared.stated.StatedKey.{StatedKey}
 use Rattle.voy_schema.specs.declared.stated.StatedTable.{StatedTable}
@@ -15,20 +16,10 @@ has_shape needed known d = is_object d && has_names needed d && has_only_names k
 abbrev pub is_exact : List (List ℕ) → Data → Bool
 is_exact names d = has_shape names names d
 
--- an item in front of those behind it, if all of them are there
-abbrev pub in_front : {A : Type 0} → Option A → Option (List A) → Option (List A)
-in_front None rest = None
-in_front (Some x) None = None
-in_front (Some x) (Some xs) = Some (x ∷ xs)
-
 -- what the items state, if each of them states something
 abbrev pub each : {A : Type 0} → (Data → Option A) → Items → Option (List A)
 each stated no_items = Some []
 each stated (item d ds) = in_front (stated d) (each stated ds)
-
--- the string under this name
-abbrev pub text_at : List ℕ → Data → Option (List ℕ)
-text_at name d = option_and_then as_str (get name d)
 
 -- what the list under this name states
 abbrev pub list_at : {A : Type 0} → (Data → Option A) → List ℕ → Data → Option (List A)

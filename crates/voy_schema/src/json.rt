@@ -2,13 +2,14 @@ ghost use Rattle.std.specs.Prelude.{◌≡◌, map, Option, IfOk, option_map, op
 ghost use Rattle.serde_json.specs.Data.{Data};
 ghost use Rattle.serde_json.specs.Find.{as_array, as_str, get};
 ghost use Rattle.serde_json.specs.View.{view, items_view};
-ghost use Rattle.voy_json.specs.Document.{is_object};
-ghost use Rattle.voy_schema.specs.Stated.{each, flag_at, has_shape, is_exact, list_at, text_at};
+ghost use Rattle.voy_json.specs.Document.{is_object, text_at};
+ghost use Rattle.voy_schema.specs.Stated.{each, flag_at, has_shape, is_exact, list_at};
 
 use crate::items::Items;
 use crate::text::Text;
 use serde_json::Value;
 use std::alloc::{AllocError, Global};
+use voy_json::text_at;
 
 /// What an item of a list in a JSON document states.
 pub trait FromJson {
@@ -55,12 +56,12 @@ pub fn flag_at(value: &Value, name: &str) -> Option<bool>
     }
 }
 
-/// The string under this name of an object. `None` where there is none, or something else.
-pub fn text_at(alloc: Global, value: &Value, name: &str) -> Result<Option<Text>, AllocError>
+/// A copy of the string under this name of an object. `None` where there is none, or something else.
+pub fn copied_text_at(alloc: Global, value: &Value, name: &str) -> Result<Option<Text>, AllocError>
     ensures { IfOk result (λ found. found ≡ text_at name.now (view value.now)) }
 {
-    match value.get(name) {
-        Some(member) => Text::from_json(alloc, member),
+    match text_at(value, name) {
+        Some(text) => Ok(Some(Text::from_str(alloc, text)?)),
         None => Ok(None),
     }
 }

@@ -1,11 +1,11 @@
 ghost use Rattle.std.specs.Prelude.{◌≡◌, ◌≤◌, [], length, option_map, IfOk, IfErr};
 ghost use Rattle.std.specs.Bool.{OnTrue};
 ghost use Rattle.serde_json.specs.View.{view, items_view};
-ghost use Rattle.voy_schema.specs.Reading.{RefusesTables, has_lawful_count, items_reading, schema_reading, stated_items, table_reading, tables_reading};
+ghost use Rattle.voy_schema.specs.Reading.{RefusesTables, has_lawful_count, items_reading, schema_reading, stated_items, table_or_why, tables_reading};
 ghost use Rattle.voy_schema.specs.Stated.{stated_table};
 ghost use Rattle.voy_schema.specs.declared.why.SchemaError.TheVariants.{Bad};
 
-use crate::building::table_of;
+use crate::building::table_stated;
 use crate::items::Items;
 use crate::json::{FromJson, is_exact};
 use crate::limits::MAX_TABLES;
@@ -97,13 +97,13 @@ fn read_table(
     earlier: &[Table],
     item: &Value,
 ) -> Result<Result<Table, SchemaWhy>, AllocError>
-    ensures { IfOk result (λ reading. reading ≡ table_reading earlier.now (stated_table (view item.now))) }
+    ensures { IfOk result (λ reading. reading ≡ table_or_why earlier.now (stated_table (view item.now))) }
 {
     let Some(stated) = StatedTable::from_json(alloc, item)? else {
         return Ok(Err(SchemaWhy::Shape));
     };
     match broken_rule(earlier, &stated) {
         Some(why) => Ok(Err(why)),
-        None => Ok(Ok(table_of(alloc, stated)?)),
+        None => Ok(Ok(table_stated(alloc, stated)?)),
     }
 }

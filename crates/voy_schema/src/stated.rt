@@ -3,7 +3,7 @@ ghost use Rattle.serde_json.specs.View.{view};
 ghost use Rattle.voy_schema.specs.Stated.{stated_column, stated_key, stated_table};
 
 use crate::items::Items;
-use crate::json::{FromJson, flag_at, has_shape, is_exact, list_at, text_at};
+use crate::json::{FromJson, copied_text_at, flag_at, has_shape, is_exact, list_at};
 use crate::text::Text;
 use serde_json::Value;
 use std::alloc::{AllocError, Global};
@@ -52,10 +52,10 @@ impl FromJson for StatedTable {
         if !is_exact(value, &TABLE_NAMES) {
             return Ok(None);
         }
-        let Some(schema_name) = text_at(alloc, value, "schema_name")? else {
+        let Some(schema_name) = copied_text_at(alloc, value, "schema_name")? else {
             return Ok(None);
         };
-        let Some(table_name) = text_at(alloc, value, "table_name")? else {
+        let Some(table_name) = copied_text_at(alloc, value, "table_name")? else {
             return Ok(None);
         };
         let Some(columns) = list_at(alloc, value, "columns")? else {
@@ -85,10 +85,10 @@ impl FromJson for StatedColumn {
         if !is_exact(value, &COLUMN_NAMES) {
             return Ok(None);
         }
-        let Some(name) = text_at(alloc, value, "name")? else {
+        let Some(name) = copied_text_at(alloc, value, "name")? else {
             return Ok(None);
         };
-        let Some(kind) = text_at(alloc, value, "type")? else {
+        let Some(kind) = copied_text_at(alloc, value, "type")? else {
             return Ok(None);
         };
         Ok(Some(StatedColumn { name, kind }))

@@ -4,7 +4,7 @@ use Rattle.std.proofs.lemmas.Bool.{and_parts}
 use Rattle.std.proofs.lemmas.List.Folds.{list_all-map}
 use Rattle.voy_schema.specs.Reading.{is_column}
 use Rattle.voy_schema.specs.declared.stated.StatedKey.{StatedKey}
-use Rattle.voy_schema.proofs.building.table_of.Goals as goal
+use Rattle.voy_schema.proofs.building.table_stated.Goals as goal
 
 pub unique_keys_of-requires-clause-keyed : goal.unique_keys_of-requires-clause-keyed
 unique_keys_of-requires-clause-keyed c =
