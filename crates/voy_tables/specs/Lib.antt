@@ -5,6 +5,9 @@ pub mod Lists
 pub mod Folds
 pub mod RowText
 pub mod Standing
+pub mod SameLaws
+pub mod MisfitLaws
+pub mod CleanLaws
 pub mod Laws
 pub mod Unread
 pub mod Readings

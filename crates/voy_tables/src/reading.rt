@@ -2,7 +2,7 @@ ghost use Rattle.std.specs.Prelude.{◌≡◌, ◌≤◌, Ok, length, IfErr, IfO
 ghost use Rattle.std.specs.List.{range_with_len};
 ghost use Rattle.csv.specs.Reading.{default_config, records};
 ghost use Rattle.csv.specs.Records.{fields_of};
-ghost use Rattle.voy_tables.specs.Readings.{IsCause, begins_with_mark, behind_header, headed_reading, header_reading, fields_at, first_misplaced, record_reading, recorded_reading, records_reading, rows_reading, without_mark};
+ghost use Rattle.voy_tables.specs.Readings.{IsCause, begins_with_mark, behind_header, headed_reading, header_reading, fields_at, first_misplaced, record_reading, recorded_rows, records_reading, rows_reading, without_mark};
 
 use crate::header::{read_header, refused};
 use crate::record_reader::{MARK, Records};
@@ -47,10 +47,10 @@ fn read_in_order(alloc: Global, table: &Table, bytes: &[u8]) -> Result<Rows, Row
 ///
 /// One byte order mark before it is dropped. The error has the first record that is refused, the header
 /// being record 1, and its first cause.
-#[tactic(auto, unfolding(crate::specs::Readings::recorded_reading))]
+#[tactic(auto, unfolding(crate::specs::Readings::recorded_rows))]
 pub fn read_recorded(alloc: Global, table: &Table, bytes: &[u8]) -> Result<Rows, RowError>
-    ensures ok { IfOk result (λ rows. recorded_reading table.now bytes.now ≡ Ok rows) }
-    ensures err { IfErr result (IsCause (recorded_reading table.now bytes.now)) }
+    ensures ok { IfOk result (λ rows. recorded_rows table.now bytes.now ≡ Ok rows) }
+    ensures err { IfErr result (IsCause (recorded_rows table.now bytes.now)) }
 {
     let text = skip_mark(bytes);
     if starts_with_mark(text) {

@@ -6,11 +6,16 @@ use Rattle.std.specs.List.{position, prefix_len}
 use Rattle.std.specs.Prelude.{if◌then◌else◌, slice_get}
 use Rattle.voy_schema.specs.declared.table.Table.{Table}
 use Rattle.voy_schema.specs.declared.value.Value.{Value}
-use Rattle.voy_contents.proofs.TupleLemmas.{same_values-decides}
+use Rattle.voy_schema.specs.declared.table.UniqueKey.{UniqueKey}
 use Rattle.voy_tables.specs.Keys.{same_values}
 use Rattle.voy_tables.specs.Lists.{is_taken, misfit_by, unique_misfit}
+use Rattle.voy_tables.specs.SameLaws.{same_values-decides}
 use Rattle.voy_tables.specs.declared.change.Misfit.{Misfit}
 use Rattle.voy_tables.specs.declared.change.Misfit.TheVariants.{OtherRow, Unique}
+
+-- a row that is gone takes no tuple
+pub is_taken-None : (t : Table) (key : List (List ℕ)) (rows : List (List Value)) (u : UniqueKey) → is_taken t key None rows u ≡ false
+is_taken-None t key rows u = refl
 
 -- where no item passes, there is no first one
 abbrev pub NonePasses : {X : Type 0} → (X → Bool) → List X → Type 0
@@ -20,7 +25,7 @@ prefix_len-all : {X : Type 0} (p : X → Bool) (xs : List X) → NonePasses p xs
 prefix_len-all p [] none = refl
 prefix_len-all p (x ∷ xs) none = rw (none zero x refl, prefix_len-all p xs (λ at. none (suc at))) (omega arith)
 
-position-none : {X : Type 0} (p : X → Bool) (xs : List X) → NonePasses p xs → position p xs ≡ None
+pub position-none : {X : Type 0} (p : X → Bool) (xs : List X) → NonePasses p xs → position p xs ≡ None
 position-none p xs none = cond-false _ _ _ (ap (λ n. ltb n (length xs)) (prefix_len-all p xs none) ∙ le-ltb _ _ (omega arith))
 
 prefix_len-some : {X : Type 0} (p : X → Bool) (xs : List X) (at : ℕ) (x : X) → slice_get xs at ≡ Some x → p x ≡ true → prefix_len (λ x. not (p x)) xs < length xs
@@ -34,9 +39,12 @@ prefix_len-some p (y ∷ xs) (suc at) x found passes = by (p y) (prefix_len-some
     by true rest = omega arith
     by false rest = omega arith
 
-position-none_passes : {X : Type 0} (p : X → Bool) (xs : List X) → position p xs ≡ None → NonePasses p xs
+pub position-none_passes : {X : Type 0} (p : X → Bool) (xs : List X) → position p xs ≡ None → NonePasses p xs
 position-none_passes p xs none at x found = false_from_ne_true (p x) (λ passes.
     none-some _ (sym none ∙ cond-true _ _ _ (lt-ltb _ _ (prefix_len-some p xs at x found passes))))
+
+pub unique_misfit-None : (t : Table) (key : List (List ℕ)) (rows : List (List Value)) → unique_misfit t key None rows ≡ None
+unique_misfit-None t key rows = ap (option_map Unique) (position-none (is_taken t key None rows) t.unique_keys (λ _ u _. is_taken-None t key rows u))
 
 -- the unique keys give no misfit exactly where none of their tuples is taken
 pub unique_misfit-free : (t : Table) (key : List (List ℕ)) (after : Option (List Value)) (rows : List (List Value))
@@ -100,3 +108,9 @@ misfit_by-none (Some before) (Some there) rest h = by (same_values there before)
     by : (same : Bool) → same_values there before ≡ same → (if same then rest else Some OtherRow) ≡ None → (◌≡◌ {A = Option (List Value)} (Some there) (Some before)) × (rest ≡ None)
     by true e g = (ap Some ((same_values-decides there before).0 e), g)
     by false e g = cc
+
+pub misfit_by-fits : (before there : Option (List Value)) → there ≡ before → misfit_by before there None ≡ None
+misfit_by-fits None None h = refl
+misfit_by-fits None (Some there) h = cc
+misfit_by-fits (Some before) None h = cc
+misfit_by-fits (Some before) (Some there) h = misfit_by-same before there (same_Some there before h)
