@@ -1,14 +1,13 @@
 -- The texts of rows, one behind the other.
-use Rattle.std.proofs.Common.{◌≡◌, ◌≤◌, ℕ, ◌+◌, true, List, [], ◌∷◌, ◌++◌, append_assoc, length, map, Some, refl, sym, ap, ◌∙◌, arith}
+use Rattle.std.proofs.Common.{◌≡◌, ◌≤◌, ℕ, true, List, [], ◌∷◌, ◌++◌, append_assoc, length, map, refl, sym, ap, ◌∙◌, arith}
 use Rattle.std.specs.List.{list_all}
-use Rattle.std.specs.Prelude.{if◌then◌else◌}
 use Rattle.std.proofs.lemmas.Bool.{and_parts}
 use Rattle.std.proofs.lemmas.List.{length-append}
 use Rattle.std.proofs.lemmas.Option.{same_Some}
 use Rattle.csv.proofs.RoundTrip.{read-write}
 use Rattle.csv.specs.Machine.{next_record}
 use Rattle.csv.specs.Reading.{default_config}
-use Rattle.csv.specs.Writing.{default_writer, is_blank, read_back, row_body}
+use Rattle.csv.specs.Writing.{read_back}
 use Rattle.csv.specs.declared.parser.State.TheVariants as st
 use Rattle.voy_schema.specs.Rows.{has_lawful_values, has_whole_key, is_lawful_row}
 use Rattle.voy_schema.specs.declared.table.Column.{Column}
@@ -17,19 +16,7 @@ use Rattle.voy_schema.specs.declared.value.Value.{Value}
 use Rattle.voy_tables.proofs.BackLemmas.{fields_read_back, no_empty_row}
 use Rattle.voy_tables.specs.Readings.{row_of}
 use Rattle.voy_tables.specs.RowText.{field_of, row_line, row_lines}
-
-pub row_lines-append : (first rest : List (List Value)) → row_lines (first ++ rest) ≡ row_lines first ++ row_lines rest
-row_lines-append [] rest = refl
-row_lines-append (row ∷ first) rest =
-    ap (λ text. row_line row ++ text) (row_lines-append first rest) ∙ sym (append_assoc (row_line row) (row_lines first) (row_lines rest))
-
-pub row_line-some : (row : List Value) → 1 ≤ length (row_line row)
-unfolding row_line
-row_line-some row =
-    let body = row_body default_writer (map field_of row) in
-    let quotes : List ℕ = if is_blank default_writer (map field_of row) then 34 ∷ 34 ∷ [] else [] in
-    let whole : length (row_line row) ≡ length body + (length quotes + 1) = length-append body (quotes ++ 10 ∷ []) ∙ ap (λ n. length body + n) (length-append quotes (10 ∷ [])) in
-    omega (arith, whole)
+use Rattle.voy_tables.specs.RowTextLaws.{row_line-some}
 
 -- the fields of a lawful row are read back as they are
 whole_back : (columns : List Column) (row : List Value) → 1 ≤ length columns → has_lawful_values columns row ≡ true → read_back (map field_of row) ≡ map field_of row

@@ -1,5 +1,5 @@
 -- A change that fits clean tables leaves them clean.
-use Rattle.std.specs.Prelude.{◌≡◌, ◌≢◌, ℕ, Bool, true, false, List, Option, Some, if◌then◌else◌}
+use Rattle.std.specs.Prelude.{◌≡◌, ◌≢◌, Bool, true, false, List, Option, Some, if◌then◌else◌}
 use Rattle.std.proofs.Common.{ap, refl, subst, sym, ◌∙◌}
 use Rattle.std.proofs.lemmas.Bool.{false≢true}
 use Rattle.voy_schema.specs.declared.table.Table.{Table}

@@ -4,6 +4,7 @@ pub mod Tables
 pub mod Lists
 pub mod Folds
 pub mod RowText
+pub mod RowTextLaws
 pub mod Standing
 pub mod SameLaws
 pub mod MisfitLaws
