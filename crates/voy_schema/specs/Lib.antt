@@ -4,6 +4,7 @@ pub mod Rows
 pub mod Lending
 pub mod LawfulLaws
 pub mod Parts
+pub mod Refusal
 pub mod Stated
 pub mod Reading
 pub mod TextLaws

@@ -162,7 +162,7 @@ tables_of_document (Some d) = items_reading (stated_items d)
 unfoldable pub schema_reading : List ℕ → Result (List Table) (ℕ × SchemaWhy)
 schema_reading bytes = tables_of_document (data_of_bytes bytes)
 
--- a refusal names the first table that breaks a rule, and its first such rule, or memory was not found
-abbrev pub RefusesTables : Result (List Table) (ℕ × SchemaWhy) → SchemaError → Type 0
-RefusesTables reading (Bad table w) = reading ≡ Err (table, w)
-RefusesTables reading NoMemory = Unit {0}
+-- the table that an error names, and the rule that it breaks; none for want of memory
+abbrev pub cause_of : SchemaError → Option (ℕ × SchemaWhy)
+cause_of (Bad table w) = Some (table, w)
+cause_of NoMemory = None

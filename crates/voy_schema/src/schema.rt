@@ -1,7 +1,8 @@
 ghost use Rattle.std.specs.Prelude.{◌≡◌, ◌<◌, true, false, length, slice_get, IfErr, IfOk, IfSome};
 ghost use Rattle.std.specs.Option.{option_copied};
 ghost use Rattle.voy_schema.specs.Lawful.{is_lawful, is_lawful_table, place_of};
-ghost use Rattle.voy_schema.specs.Reading.{RefusesTables, schema_reading};
+ghost use Rattle.voy_schema.specs.Reading.{cause_of, schema_reading};
+ghost use Rattle.voy_schema.specs.Refusal.{Refuses};
 
 use crate::copying::Copies;
 use crate::reading::read_schema;
@@ -25,7 +26,7 @@ impl Schema {
     /// its tables in their order, and within a table the rules in the order of [`SchemaWhy`].
     pub fn read(alloc: Global, bytes: &[u8]) -> Result<Schema, SchemaError>
         ensures ok { IfOk result (λ s. schema_reading bytes.now ≡ Ok s.tables) }
-        ensures err { IfErr result (RefusesTables (schema_reading bytes.now)) }
+        ensures err { IfErr result (Refuses cause_of (schema_reading bytes.now)) }
     {
         let tables = read_schema(alloc, bytes)?;
         Ok(Schema { tables })

@@ -1,5 +1,5 @@
 -- What a text of rows reads as, and for which record and cause it is refused.
-use Rattle.std.specs.Prelude.{◌≡◌, ℕ, ◌+◌, ◌==◌, ◌&&◌, Bool, List, [], ◌∷◌, Option, Some, None, Result, Ok, Err, ⊤, codes, count_by, drop, length, map, not, slice_index_or, take, if◌then◌else◌}
+use Rattle.std.specs.Prelude.{◌≡◌, ℕ, ◌+◌, ◌==◌, ◌&&◌, Bool, List, [], ◌∷◌, Option, Some, None, Result, Ok, Err, codes, count_by, drop, length, map, not, slice_index_or, take, if◌then◌else◌}
 use Rattle.std.specs.List.{list_all, position_or_len}
 use Rattle.std.specs.Str.{bytes_eq, is_utf8}
 use Rattle.csv.specs.Reading.{default_config, records}
@@ -137,12 +137,12 @@ row_why_text why.BadValue = codes "bad value"
 row_why_text why.NullKey = codes "null key"
 row_why_text why.TooLong = codes "too long"
 
--- why one record was refused
-abbrev pub IsWhy : Result (List Value) RowWhy → RecordError → Type 0
-IsWhy reading (Refused cause) = reading ≡ Err cause
-IsWhy reading record_error.NoMemory = ⊤
+-- why one record was refused; no cause for want of memory
+abbrev pub why_of : RecordError → Option RowWhy
+why_of (Refused cause) = Some cause
+why_of record_error.NoMemory = None
 
--- why something was not read: for what its text reads as, or for want of memory
-abbrev pub IsCause : {A : Type 0} → Result A RowError → RowError → Type 0
-IsCause reading (Bad line cause) = reading ≡ Err (Bad line cause)
-IsCause reading NoMemory = ⊤
+-- the record and the cause for which something was not read; none for want of memory
+abbrev pub cause_of : RowError → Option RowError
+cause_of (Bad line cause) = Some (Bad line cause)
+cause_of NoMemory = None
