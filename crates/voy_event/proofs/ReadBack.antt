@@ -15,7 +15,7 @@ use Rattle.voy_schema.specs.LawfulLaws.{LawfulParts, place_of-at, table_is_lawfu
 use Rattle.voy_schema.specs.Rows.{has_lawful_values, is_lawful_row, text_of, values_at}
 use Rattle.voy_schema.specs.declared.table.Table.{Table}
 use Rattle.voy_schema.specs.declared.value.Value.{Value}
-use Rattle.voy_tables.proofs.SameLemmas.{same_key-decides}
+use Rattle.voy_tables.specs.SameLaws.{same_key-decides}
 use Rattle.voy_tables.specs.Changes.{is_row_of, is_well_formed, key_in}
 use Rattle.voy_tables.specs.Keys.{same_key}
 use Rattle.voy_tables.specs.declared.change.Change.{Change}
