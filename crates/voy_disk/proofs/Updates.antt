@@ -7,7 +7,7 @@ use Rattle.std.specs.Str.{bytes_eq}
 use Rattle.std.proofs.lemmas.Slice.Eq.{bytes_eq-Decides}
 use Rattle.std.proofs.lemmas.Bool.{false_from_ne_true}
 use Rattle.std.proofs.lemmas.Option.{none-some}
-use Rattle.voy_disk.specs.declared.file.MemFile.{MemFile}
+use Rattle.voy_disk.specs.declared.memory.file.MemFile.{MemFile}
 use Rattle.voy_disk.specs.File.{File, settled}
 use Rattle.voy_disk.specs.Files.{Puts}
 use Rattle.voy_disk.specs.Calls.{Changes, Created, Renamed}

@@ -1,7 +1,7 @@
 -- What contracts see of a disk in memory whose calls fail by a plan.
 use Rattle.std.specs.Prelude.{◌≡◌, ◌||◌, ℕ, Bool}
-use Rattle.voy_disk.specs.declared.mem_disk.MemDisk.{MemDisk}
-use Rattle.voy_disk.specs.declared.plan.FaultPlan.{FaultPlan}
+use Rattle.voy_disk.specs.declared.memory.disk.MemDisk.{MemDisk}
+use Rattle.voy_disk.specs.declared.memory.plan.FaultPlan.{FaultPlan}
 use Rattle.voy_disk.specs.Faults.{count_after}
 use Rattle.voy_disk.specs.Files.{Files}
 use Rattle.voy_disk.specs.MemFiles.{files_of}

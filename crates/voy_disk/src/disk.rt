@@ -28,6 +28,10 @@ pub trait Disk {
     ghost faults: { Self → ℕ };
 
     /// Through which references the disk is lent, the outermost first; none for a disk that is owned.
+    ///
+    /// A struct over a lent disk could swap its reference for another one, and its caller, when the loan ends,
+    /// would know nothing of the disk that it lent. So each call says that the lender stays, as does each
+    /// call of a store over a disk: then what a call says of the disk is said of the caller's own.
     ghost lender: { Self → List GName };
 
     /// The names of all files, in byte order. No file changes.
