@@ -33,7 +33,7 @@ pub struct MemDisk {
 }
 
 impl MemDisk {
-    ghost use Rattle.voy_disk.specs.MemDisk.{mem_disk_files, mem_disk_calls, mem_disk_plan, mem_disk_faults, mem_disk_dead, fails_next, CountsCall, KeepsPlan};
+    ghost use Rattle.voy_disk.specs.MemDisk.{mem_disk_files, mem_disk_calls, mem_disk_plan, mem_disk_faults, mem_disk_dead, fails_next, faults_after, CountsCall, KeepsPlan};
 
     /// A disk without files, whose calls fail by this plan.
     pub fn new(alloc: Global, plan: FaultPlan) -> MemDisk
@@ -125,20 +125,48 @@ impl MemDisk {
         ensures failed { IfErr result (λ error. error ≡ DiskError.Failed) }
         ensures counted { CountsCall self.old self.new }
         ensures files { self.new.files ≡ self.old.files }
-        ensures cause { HasCause DiskError.Failed (mem_disk_faults self.old) (mem_disk_faults self.new) result }
+        ensures faults { mem_disk_faults self.new ≡ mem_disk_faults self.old }
     {
         self.calls = self.calls.saturating_add(1);
         self.dead = self.dead || self.plan.is_dead_at(self.calls);
         if self.plan.fails_at(self.calls) {
-            self.faults = self.faults.saturating_add(1);
             return Err(DiskError::Failed);
         }
         Ok(())
     }
+
+    // Counts a call that reads, and a fault where the plan has its number.
+    fn begin_to_read(&mut self) -> Result<(), DiskError>
+        ensures planned { IsErr result ↔ IsTrue (fails_next self.old) }
+        ensures failed { IfErr result (λ error. error ≡ DiskError.Failed) }
+        ensures counted { CountsCall self.old self.new }
+        ensures files { self.new.files ≡ self.old.files }
+        ensures faults { mem_disk_faults self.new ≡ faults_after (mem_disk_faults self.old) result }
+        ensures cause { HasCause DiskError.Failed (mem_disk_faults self.old) (mem_disk_faults self.new) result }
+    {
+        let begun = self.begin();
+        self.counted(begun)
+    }
+
+    // The answer of a call, whose fault is counted.
+    fn counted(&mut self, answer: Result<(), DiskError>) -> Result<(), DiskError>
+        ensures answer { result ≡ answer }
+        ensures faults { mem_disk_faults self.new ≡ faults_after (mem_disk_faults self.old) result }
+        ensures cause { HasCause DiskError.Failed (mem_disk_faults self.old) (mem_disk_faults self.new) result }
+        ensures files { self.new.files ≡ self.old.files }
+        ensures calls { mem_disk_calls self.new ≡ mem_disk_calls self.old }
+        ensures plan { mem_disk_plan self.new ≡ mem_disk_plan self.old }
+        ensures dead { mem_disk_dead self.new ≡ mem_disk_dead self.old }
+    {
+        if let Err(DiskError::Failed) = &answer {
+            self.faults = self.faults.saturating_add(1);
+        }
+        answer
+    }
 }
 
 impl Disk for MemDisk {
-    ghost use Rattle.voy_disk.specs.MemDisk.{mem_disk_files, mem_disk_faults, fails_next, CountsCall};
+    ghost use Rattle.voy_disk.specs.MemDisk.{mem_disk_files, mem_disk_faults, fails_next, faults_after, CountsCall};
 
     ghost files = { λ disk. Some (mem_disk_files disk) };
 
@@ -150,11 +178,12 @@ impl Disk for MemDisk {
         ensures names { IfOk result (λ names. Lists (mem_disk_files self.old) names) }
         ensures same { mem_disk_files self.new ≡ mem_disk_files self.old }
         ensures cause { HasCause DiskError.Failed (mem_disk_faults self.old) (mem_disk_faults self.new) result }
+        ensures faults { mem_disk_faults self.new ≡ faults_after (mem_disk_faults self.old) result }
         ensures planned { IsTrue (fails_next self.old) → IsErr result }
         ensures failed { IsErrOf result DiskError.Failed → IsTrue (fails_next self.old) }
         ensures counted { CountsCall self.old self.new }
     {
-        self.begin()?;
+        self.begin_to_read()?;
         Ok(names_in(self.alloc, &self.files)?)
     }
 
@@ -163,11 +192,12 @@ impl Disk for MemDisk {
         ensures short { IfOk result (λ n. IfSome n (λ bytes. bytes < 2 ^ 63)) }
         ensures same { mem_disk_files self.new ≡ mem_disk_files self.old }
         ensures cause { HasCause DiskError.Failed (mem_disk_faults self.old) (mem_disk_faults self.new) result }
+        ensures faults { mem_disk_faults self.new ≡ faults_after (mem_disk_faults self.old) result }
         ensures planned { IsErr result ↔ IsTrue (fails_next self.old) }
         ensures failed { IfErr result (λ error. error ≡ DiskError.Failed) }
         ensures counted { CountsCall self.old self.new }
     {
-        self.begin()?;
+        self.begin_to_read()?;
         Ok(length_in(&self.files, name))
     }
 
@@ -177,26 +207,29 @@ impl Disk for MemDisk {
         ensures some { IfOk result (λ n. (n ≡ 0) ↔ NothingToRead (bytes_now (mem_disk_files self.old name.now)) at into.old) }
         ensures same { mem_disk_files self.new ≡ mem_disk_files self.old }
         ensures cause { HasCause DiskError.Failed (mem_disk_faults self.old) (mem_disk_faults self.new) result }
+        ensures faults { mem_disk_faults self.new ≡ faults_after (mem_disk_faults self.old) result }
         ensures planned { IsErr result ↔ IsTrue (fails_next self.old) }
         ensures failed { IfErr result (λ error. error ≡ DiskError.Failed) }
         ensures counted { CountsCall self.old self.new }
     {
-        self.begin()?;
+        self.begin_to_read()?;
         Ok(read_in(&self.files, name, at, into))
     }
 
     fn create(&mut self, name: &Name) -> Result<(), DiskError>
         ensures created { Leaves result (Created name.now) (DoneOrNot (Created name.now)) (Some (mem_disk_files self.old)) (Some (mem_disk_files self.new)) }
         ensures cause { HasCause DiskError.Failed (mem_disk_faults self.old) (mem_disk_faults self.new) result }
+        ensures faults { mem_disk_faults self.new ≡ faults_after (mem_disk_faults self.old) result }
         ensures planned { IsTrue (fails_next self.old) → IsErr result }
         ensures failed { IsErrOf result DiskError.Failed → IsTrue (fails_next self.old) }
         ensures counted { CountsCall self.old self.new }
     {
         let begun = self.begin();
         if begun.is_err() && !self.leaves_done() {
-            return begun;
+            return self.counted(begun);
         }
-        answer(begun, create_in(self.alloc, &mut self.files, name))
+        let done = create_in(self.alloc, &mut self.files, name);
+        self.counted(answer(begun, done))
     }
 
     fn write_at(&mut self, name: &Name, at: u64, bytes: &[u8]) -> Result<(), DiskError>
@@ -204,6 +237,7 @@ impl Disk for MemDisk {
         ensures written { Leaves result (Changes (Wrote at bytes.now) name.now) (Changes (Smeared at (length bytes.now)) name.now) (Some (mem_disk_files self.old)) (Some (mem_disk_files self.new)) }
         ensures fits { OnOk result (at + length bytes.now < 2 ^ 63) }
         ensures cause { HasCause DiskError.Failed (mem_disk_faults self.old) (mem_disk_faults self.new) result }
+        ensures faults { mem_disk_faults self.new ≡ faults_after (mem_disk_faults self.old) result }
         ensures planned { IsTrue (fails_next self.old) → IsErr result }
         ensures failed { IsErrOf result DiskError.Failed → IsTrue (fails_next self.old) }
         ensures counted { CountsCall self.old self.new }
@@ -212,13 +246,14 @@ impl Disk for MemDisk {
         let count = bytes.len() as u64;
         let part = self.part(&begun, count);
         let done = write_in(&mut self.files, name, at, &bytes[..part as usize], count);
-        answer(begun, done)
+        self.counted(answer(begun, done))
     }
 
     fn cut(&mut self, name: &Name, to: u64) -> Result<(), DiskError>
         requires there { IsThereWith (λ file. to ≤ length file.now) (mem_disk_files self.old name.now) }
         ensures cut { Leaves result (Changes (WasCut to) name.now) (Changes (CutFailed to) name.now) (Some (mem_disk_files self.old)) (Some (mem_disk_files self.new)) }
         ensures cause { HasCause DiskError.Failed (mem_disk_faults self.old) (mem_disk_faults self.new) result }
+        ensures faults { mem_disk_faults self.new ≡ faults_after (mem_disk_faults self.old) result }
         ensures planned { IsTrue (fails_next self.old) → IsErr result }
         ensures failed { IsErrOf result DiskError.Failed → IsTrue (fails_next self.old) }
         ensures counted { CountsCall self.old self.new }
@@ -226,22 +261,25 @@ impl Disk for MemDisk {
         let begun = self.begin();
         let length = length_in(&self.files, name).unwrap();
         let gone = self.part(&begun, length - to);
-        answer(begun, cut_in(&mut self.files, name, to, length - gone))
+        let done = cut_in(&mut self.files, name, to, length - gone);
+        self.counted(answer(begun, done))
     }
 
     fn sync(&mut self, name: &Name) -> Result<(), DiskError>
         requires there { IsThereWith (λ _. Unit {0}) (mem_disk_files self.old name.now) }
         ensures synced { Leaves result (Changes Synced name.now) (Changes SyncFailed name.now) (Some (mem_disk_files self.old)) (Some (mem_disk_files self.new)) }
         ensures cause { HasCause DiskError.Failed (mem_disk_faults self.old) (mem_disk_faults self.new) result }
+        ensures faults { mem_disk_faults self.new ≡ faults_after (mem_disk_faults self.old) result }
         ensures planned { IsTrue (fails_next self.old) → IsErr result }
         ensures failed { IsErrOf result DiskError.Failed → IsTrue (fails_next self.old) }
         ensures counted { CountsCall self.old self.new }
     {
         let begun = self.begin();
         if begun.is_err() && !self.leaves_done() {
-            return begun;
+            return self.counted(begun);
         }
-        answer(begun, sync_in(&mut self.files, name))
+        let done = sync_in(&mut self.files, name);
+        self.counted(answer(begun, done))
     }
 
     fn rename(&mut self, from: &Name, to: &Name) -> Result<(), DiskError>
@@ -249,15 +287,17 @@ impl Disk for MemDisk {
         requires free { mem_disk_files self.old to.now ≡ None }
         ensures renamed { Leaves result (Renamed from.now to.now) (DoneOrNot (Renamed from.now to.now)) (Some (mem_disk_files self.old)) (Some (mem_disk_files self.new)) }
         ensures cause { HasCause DiskError.Failed (mem_disk_faults self.old) (mem_disk_faults self.new) result }
+        ensures faults { mem_disk_faults self.new ≡ faults_after (mem_disk_faults self.old) result }
         ensures planned { IsTrue (fails_next self.old) → IsErr result }
         ensures failed { IsErrOf result DiskError.Failed → IsTrue (fails_next self.old) }
         ensures counted { CountsCall self.old self.new }
     {
         let begun = self.begin();
         if begun.is_err() && !self.leaves_done() {
-            return begun;
+            return self.counted(begun);
         }
-        answer(begun, rename_in(self.alloc, &mut self.files, from, to))
+        let done = rename_in(self.alloc, &mut self.files, from, to);
+        self.counted(answer(begun, done))
     }
 
     ghost reads_an_image = { λ disk. files_read_images disk.files };
