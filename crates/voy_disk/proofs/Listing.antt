@@ -6,7 +6,7 @@ use Rattle.std.proofs.lemmas.Map.Views.{any-filter_same}
 use Rattle.std.proofs.lemmas.Slice.Eq.{bytes_eq-Decides}
 use Rattle.std.specs.BTreeMap.{BTreeMap, IsOrdered, is_at, keys}
 use Rattle.std.specs.Cmp.Lexicographic.{slice_cmp}
-use Rattle.std.specs.List.{AllByRecursion, filter, list_any}
+use Rattle.std.specs.List.{AllByRecursion, filter, list_all, list_any}
 use Rattle.std.specs.List.Sorted.{IsStrictlySortedBy}
 use Rattle.std.specs.Map.{keys_of, lookup}
 use Rattle.std.specs.Option.{option_map}
@@ -26,6 +26,15 @@ names_more names all rest text valid so_far = append_assoc names (text ∷ []) (
 -- or it is none
 pub names_less : (names all rest : List (List ℕ)) (text : List ℕ) → is_name text ≡ false → names ++ filter is_name (text ∷ rest) ≡ all → names ++ filter is_name rest ≡ all
 names_less names all rest text other so_far = rw other at so_far
+
+-- with all others left out, only names are left
+names_only : (texts : List (List ℕ)) → list_all is_name (filter is_name texts) ≡ true
+names_only [] = refl
+names_only (text ∷ texts) = by_test (is_name text) refl (names_only texts)
+  where
+    by_test : (valid : Bool) → is_name text ≡ valid → list_all is_name (filter is_name texts) ≡ true → list_all is_name (filter is_name (text ∷ texts)) ≡ true
+    by_test true is rest = rw (is, is) rest
+    by_test false is rest = rw is rest
 
 module _ {Y : Type 0} where
   -- a text is among the keys where a file is found at it
@@ -50,5 +59,6 @@ module _ {Y : Type 0} where
   pub listed : (files : BTreeMap (String Y) MemFile) (names : List (List ℕ)) → IsOrdered string_cmp files → names ≡ filter is_name (map string_bytes (keys files)) → Lists (files_of files) names
   listed files names ordered are = record {
     has = λ name valid. rw are (any-filter_same (bytes_eq name) is_name true (λ text same. subst (λ n. is_name n ≡ true) ((bytes_eq-Decides name text).0 same) valid) (map string_bytes (keys files)) ∙ any_found name files.entries);
+    valid = rw are (names_only (map string_bytes (keys files)));
     ascend = rw are (IsStrictlySortedBy-filter (slice_cmp nat_cmp) is_name (map string_bytes (keys files)) (texts_ascend (keys files) ordered));
   }

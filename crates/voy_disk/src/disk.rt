@@ -34,7 +34,7 @@ pub trait Disk {
     /// call of a store over a disk: then what a call says of the disk is said of the caller's own.
     ghost lender: { Self → List GName };
 
-    /// The names of all files, in byte order. No file changes.
+    /// The names of all files, each once, in byte order. No file changes.
     fn list(&mut self) -> Result<Names, DiskError>
         ensures names { IfOk result (λ names. Told (files self.old) (λ fs. Lists fs names)) }
         ensures same { files self.new ≡ files self.old }

@@ -53,7 +53,7 @@ impl MemFile {
         ensures err { OnErr result (file_of self.new ≡ file_of self.old) }
     {
         let low = lowest(&self.touched, self.bytes.len() as u64) as usize;
-        self.safe.reserve(self.bytes.len())?;
+        self.safe.reserve_exact(self.bytes.len().saturating_sub(self.safe.len()))?;
         self.safe.truncate(low);
         self.safe.extend_from_slice(&self.bytes[low..])?;
         self.touched.clear();
@@ -61,7 +61,8 @@ impl MemFile {
     }
 }
 
-// Puts bytes in place of those that stand at a place and behind it. After an error nothing changed.
+// Puts bytes in place of those that stand at a place and behind it, with room for no more. After an error
+// nothing changed.
 fn overwrite(bytes: &mut Vec<u8>, at: usize, new: &[u8]) -> Result<(), AllocError>
     requires { at ≤ length bytes.old.items }
     ensures ok { OnOk result (bytes.new.items ≡ written bytes.old.items at new.now) }
@@ -69,6 +70,7 @@ fn overwrite(bytes: &mut Vec<u8>, at: usize, new: &[u8]) -> Result<(), AllocErro
     ensures err { OnErr result (bytes.new.items ≡ bytes.old.items) }
 {
     let over = new.len().min(bytes.len() - at);
+    bytes.reserve_exact(new.len() - over)?;
     bytes.extend_from_slice(&new[over..])?;
     bytes[at..at + over].copy_from_slice(&new[..over]);
     Ok(())

@@ -14,7 +14,7 @@ slice_bounds-extend_from_slice-start c =
 all_safe : (c : goal.After-clear) → c.extend_from_slice.new.self.items ≡ c.args.self.now.bytes.items
 all_safe c =
     let low = rw (c.len.ensures, c.args.self.now.bytes.ok.0, c.deref.ensures.value) at c.lowest-low.ensures in
-    let joined = rw (c.truncate.ensures.items, c.reserve.ensures.items, c.deref-2.ensures.value) at c.in_ok-extend_from_slice.ensures.items in
+    let joined = rw (c.truncate.ensures.items, c.reserve_exact.ensures.items, c.deref-2.ensures.value) at c.in_ok-extend_from_slice.ensures.items in
     joined ∙ synced_bytes c.args.self.now.bytes.items c.args.self.now.safe.items c.args.self.now.touched.items c.lowest-low.result low c.args.self.now.reads
 
 pub invariant_of-self-2 : goal.invariant_of-self-2
