@@ -66,7 +66,8 @@ pub(crate) fn create_in(alloc: Global, files: &mut MemFiles, name: &Name) -> Res
     Ok(())
 }
 
-// Gives the file another name, which is free. After an error nothing changed.
+// Gives the file another name, which is free. It copies no bytes: an empty file takes the new name, which
+// can fail, and then the file takes its place. After an error nothing changed.
 pub(crate) fn rename_in(
     alloc: Global,
     files: &mut MemFiles,
@@ -78,9 +79,10 @@ pub(crate) fn rename_in(
     ensures ok { OnOk result (Renamed from.now to.now (files_of files.old) (files_of files.new)) }
     ensures err { OnErr result (files_of files.new ≡ files_of files.old) }
 {
-    let file = files.get(from.as_str()).unwrap().copy(alloc)?;
+    let empty = MemFile::settled(alloc, &[])?;
     let key = String::from_str(alloc, to.as_str())?;
-    files.insert(key, file)?;
-    files.remove(from.as_str());
+    files.insert(key, empty)?;
+    let file = files.remove(from.as_str()).unwrap();
+    *files.get_mut(to.as_str()).unwrap() = file;
     Ok(())
 }

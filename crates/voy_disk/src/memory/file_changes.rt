@@ -7,17 +7,6 @@ use crate::memory::file::MemFile;
 use std::alloc::{AllocError, Global};
 
 impl MemFile {
-    // An equal file.
-    pub(crate) fn copy(&self, alloc: Global) -> Result<MemFile, AllocError>
-        ensures { IfOk result (λ file. file_of file ≡ file_of self.now) }
-    {
-        Ok(MemFile {
-            bytes: Vec::from_slice(alloc, &self.bytes)?,
-            safe: Vec::from_slice(alloc, &self.safe)?,
-            touched: Vec::from_slice(alloc, &self.touched)?,
-        })
-    }
-
     // Writes `bytes` at a place, and touches `count` bytes from it. After an error nothing changed.
     pub(crate) fn write(&mut self, at: usize, bytes: &[u8], count: u64) -> Result<(), AllocError>
         requires at { at ≤ length self.old.bytes.items }
@@ -53,7 +42,8 @@ impl MemFile {
         ensures err { OnErr result (file_of self.new ≡ file_of self.old) }
     {
         let low = lowest(&self.touched, self.bytes.len() as u64) as usize;
-        self.safe.reserve_exact(self.bytes.len().saturating_sub(self.safe.len()))?;
+        self.safe
+            .reserve_exact(self.bytes.len().saturating_sub(self.safe.len()))?;
         self.safe.truncate(low);
         self.safe.extend_from_slice(&self.bytes[low..])?;
         self.touched.clear();
