@@ -5,7 +5,6 @@ use Rattle.voy_disk.specs.Faults.{Rose}
 use Rattle.voy_disk.specs.Files.{Files, IfTold, bytes_now}
 use Rattle.voy_disk.specs.Written.{GotFront, grown}
 use Rattle.voy_journal.specs.Grammar.{DamagedAt, HasPayloads, payloads_of}
-use Rattle.voy_journal.specs.Journal.{KeepsOtherFiles}
 use Rattle.voy_report.specs.Show.{tables_text}
 use Rattle.voy_schema.specs.declared.table.Table.{Table}
 use Rattle.voy_store.specs.Stored.{IsStoreDamaged, history_in, store_name}
@@ -20,6 +19,7 @@ use Rattle.voy_command.specs.Stops.{RefusesSchema, StopsSchema, StopsStore, open
 use Rattle.voy_command.specs.declared.answer.Answer.{Answer}
 use Rattle.voy_command.specs.declared.answer.Cause.{Cause}
 use Rattle.voy_tables.specs.declared.change.Side.{Side}
+use Rattle.voy_disk.specs.Frames.{KeepsOtherFiles}
 
 -- ---- one text alone
 

@@ -1,54 +1,25 @@
--- What calls of a disk leave of one file and of the others.
-use Rattle.std.proofs.Common.{◌≡◌, ◌≤◌, ◌+◌, ℕ, List, Option, Some, None, Result, Ok, Err, length, take, drop, inl, ◌++◌, arith, refl, sym, ap, ◌∙◌, subst}
+-- Laws of a write into a file that is safe as it reads.
+use Rattle.std.proofs.Common.{◌≡◌, ◌≤◌, ◌+◌, ℕ, List, Option, Some, None, Result, Ok, Err, length, take, drop, inl, inr, ◌++◌, arith, refl, sym, ap, ◌∙◌, subst}
 use Rattle.std.specs.Prelude.{OnOk}
 use Rattle.std.proofs.lemmas.List.{length-take-le, take-take, take_at}
-use Rattle.voy_disk.specs.Calls.{Change, Changes, IsThereWith, Leaves, SameOutside, Smeared, SyncFailed, Synced, Wrote, told, untold}
+use Rattle.voy_disk.specs.Calls.{Change, Changes, Created, DoneOrNot, IsThereWith, Leaves, SameOutside, Smeared, SyncFailed, Synced, Wrote, or_empty}
+use Rattle.voy_disk.specs.ChangeLaws.{change_if, change_on, change_weaker, no_change}
 use Rattle.voy_disk.specs.File.{File, IsImage, settled, touch, written}
 use Rattle.voy_disk.specs.FileLaws.{changed_within, same_front}
+use Rattle.voy_disk.specs.FileStepLaws.{follows_file}
 use Rattle.voy_disk.specs.Files.{Files, IfTold, Told, bytes_now}
-use Rattle.voy_disk.specs.ImageLaws.{follows_file, image_there}
+use Rattle.voy_disk.specs.ImageLaws.{file_same, follows_if, image_there}
 use Rattle.voy_disk.specs.Images.{Image, ImagesOf, IsImageOf, StepAt}
-use Rattle.voy_disk.specs.Steps.{Follows, Same}
-use Rattle.voy_disk.specs.StepLaws.{follows_on}
+use Rattle.voy_disk.specs.SafeFiles.{IsSafeFile, KeepsBytesNow, KeepsFrontNow, Rewrites, Settles}
+use Rattle.voy_disk.specs.Steps.{Follows}
 use Rattle.voy_disk.specs.declared.disk.DiskError.{DiskError}
 use Rattle.voy_disk.specs.declared.disk.DiskError.TheVariants.{Failed, NoMemory}
-use Rattle.voy_journal.specs.Journal.{KeepsOtherFiles}
-use Rattle.voy_journal.specs.Storing.{IsSafeFile, KeepsFront, Rewrites}
-
--- one change after another
-pub change_on : {R S T : Files → Files → Type 0} {a b c : Option Files} → Change R a b → Change S b c → ((x y z : Files) → R x y → S y z → T x z) → Change T a c
-change_on untold untold on = untold
-change_on (told r) (told s) on = told (on _ _ _ r s)
-
--- a change that says less
-pub change_weaker : {R S : Files → Files → Type 0} {a b : Option Files} → Change R a b → ((x y : Files) → R x y → S x y) → Change S a b
-change_weaker untold weaker = untold
-change_weaker (told r) weaker = told (weaker _ _ r)
-
--- nothing changed
-pub no_change : (R : Files → Files → Type 0) → ((x : Files) → R x x) → (a b : Option Files) → b ≡ a → Change R a b
-no_change R here None b same = rw same untold
-no_change R here (Some x) b same = rw same (told (here x))
-
--- other files stay in one call and in another
-pub others_on : {name : List ℕ} {a b c : Option Files} → Change (KeepsOtherFiles name) a b → Change (KeepsOtherFiles name) b c → Change (KeepsOtherFiles name) a c
-others_on first second = change_on first second (λ x y z r s other differs. s other differs ∙ r other differs)
-
--- other files stay, whatever a call of this one answers
-pub others_after : {T : Type 0} (R S : File → File → Type 0) (result : Result T DiskError) (name : List ℕ) (old new : Option Files)
-    → Leaves result (Changes R name) (Changes S name) old new → Change (KeepsOtherFiles name) old new
-others_after R S (Ok value) name old new change = change_weaker change (λ x y r. r.others)
-others_after R S (Err Failed) name old new change = change_weaker change (λ x y r. r.others)
-others_after R S (Err NoMemory) name old new same = no_change (KeepsOtherFiles name) (λ x other differs. refl) old new same
 
 -- a safe file is there
 pub room_there : (files : Option Files) (name : List ℕ) (at : ℕ) → IfTold files (IsSafeFile name at)
     → Told files (λ fs. IsThereWith (λ file. at ≤ length file.now) (fs name))
 room_there None name at safe = tt
 room_there (Some fs) name at safe = let file = safe fs refl in rw file.is file.room
-
-pub file_same : {f g : File} → Some f ≡ Some g → f ≡ g
-file_same {f} {g} same = cc
 
 -- a touched range of a file that was safe
 touched_images : (bytes : List ℕ) (at n : ℕ) (f g : File) (now : List ℕ) → f ≡ settled bytes → g ≡ touch f at n now → Follows (SameOutside at n) (IsImage f) (IsImage g)
@@ -59,11 +30,6 @@ touched_images bytes at n f g now was is = record {
     by = changed_within bytes at n now image (subst (λ (file : File). IsImage file image) (is ∙ ap (λ file. touch file at n now) was) of_g);
   };
 }
-
-follows_safe : {P : Files → Type 0} {R : Files → Files → Type 0} {step : Image → Image → Type 0} {a b : Option Files} → IfTold a P → Change R a b
-    → ((x y : Files) → P x → R x y → Follows step (IsImageOf x) (IsImageOf y)) → Follows step (ImagesOf a) (ImagesOf b)
-follows_safe safe untold law = record { from = λ j is. absurd is }
-follows_safe safe (told {old = x} {new = y} r) law = law x y (safe x refl) r
 
 -- a file that is safe as it reads is the same in each image
 safe_stays : (x : Files) (name : List ℕ) (at n : ℕ) (bytes : List ℕ) → x name ≡ Some (settled bytes)
@@ -89,9 +55,9 @@ safe_stays x name at n bytes is = record {
 pub write_follows : {T : Type 0} (result : Result T DiskError) (name : List ℕ) (at : ℕ) (bytes : List ℕ) (old new : Option Files) → IfTold old (IsSafeFile name at)
     → Leaves result (Changes (Wrote at bytes) name) (Changes (Smeared at (length bytes)) name) old new
     → Follows (StepAt name (SameOutside at (length bytes))) (ImagesOf old) (ImagesOf new)
-write_follows (Ok value) name at bytes old new safe change = follows_safe safe change (λ x y file r.
+write_follows (Ok value) name at bytes old new safe change = follows_if safe change (λ x y file r.
     follows_file x y name r (λ f g is wrote. touched_images file.bytes at (length bytes) f g (written f.now at bytes) (file_same (sym is ∙ file.is)) wrote))
-write_follows (Err Failed) name at bytes old new safe change = follows_safe safe change (λ x y file r.
+write_follows (Err Failed) name at bytes old new safe change = follows_if safe change (λ x y file r.
     follows_file x y name r (λ f g is smeared. touched_images file.bytes at (length bytes) f g g.now (file_same (sym is ∙ file.is)) smeared.file))
 write_follows (Err NoMemory) name at bytes None new safe same = rw same (record { from = λ j is. absurd is })
 write_follows (Err NoMemory) name at bytes (Some x) new safe same = rw same (let file = safe x refl in safe_stays x name at (length bytes) file.bytes file.is)
@@ -105,14 +71,9 @@ write_and_sync (Ok value) name at bytes a b c wrote synced = change_on wrote syn
     let new = file_same (sym s.was ∙ w.is) in
     s.is ∙ ap Some (s.step ∙ ap (λ (file : File). settled file.now) (new ∙ w.step) ∙ ap (λ (file : File). settled (written file.now at bytes)) old))
 
--- a change of files that are known
-change_if : {R S : Files → Files → Type 0} {a b : Option Files} → Change R a b → ((z y : Files) → Some z ≡ a → R z y → S z y) → Change S a b
-change_if untold weaker = untold
-change_if (told r) weaker = told (weaker _ _ refl r)
-
 -- what reads in front of the place of a write stays
 pub front_written : {T : Type 0} (result : Result T DiskError) (name : List ℕ) (at : ℕ) (bytes : List ℕ) (old new : Option Files) → IfTold old (IsSafeFile name at)
-    → Leaves result (Changes (Wrote at bytes) name) (Changes (Smeared at (length bytes)) name) old new → Change (KeepsFront name at) old new
+    → Leaves result (Changes (Wrote at bytes) name) (Changes (Smeared at (length bytes)) name) old new → Change (KeepsFrontNow name at) old new
 front_written (Ok value) name at bytes old new safe change = change_if change (λ x y is r.
     let file = safe x (sym is) in
     let before : r.before ≡ settled file.bytes = file_same (sym r.was ∙ file.is) in
@@ -123,35 +84,55 @@ front_written (Ok value) name at bytes old new safe change = change_if change (�
 front_written (Err Failed) name at bytes old new safe change = change_weaker change (λ x y r.
     ap (λ found. take at (bytes_now found)) r.is ∙ same_front at r.after.now r.before.now (λ place below. r.step.outside place (inl below))
     ∙ ap (λ found. take at (bytes_now found)) (sym r.was))
-front_written (Err NoMemory) name at bytes old new safe same = no_change (KeepsFront name at) (λ x. refl) old new same
+front_written (Err NoMemory) name at bytes old new safe same = no_change (KeepsFrontNow name at) (λ x. refl) old new same
 
 -- and after a sync all reads as before
 pub reads_on : {T : Type 0} (result : Result T DiskError) (name : List ℕ) (at : ℕ) (old new : Option Files)
-    → Leaves result (Changes Synced name) (Changes SyncFailed name) old new → Change (KeepsFront name at) old new
+    → Leaves result (Changes Synced name) (Changes SyncFailed name) old new → Change (KeepsFrontNow name at) old new
 reads_on (Ok value) name at old new change = change_weaker change (λ x y r.
     ap (λ found. take at (bytes_now found)) r.is ∙ ap (λ (file : File). take at file.now) r.step ∙ ap (λ found. take at (bytes_now found)) (sym r.was))
 reads_on (Err Failed) name at old new change = change_weaker change (λ x y r.
     ap (λ found. take at (bytes_now found)) r.is ∙ ap (take at) r.step.now ∙ ap (λ found. take at (bytes_now found)) (sym r.was))
-reads_on (Err NoMemory) name at old new same = no_change (KeepsFront name at) (λ x. refl) old new same
+reads_on (Err NoMemory) name at old new same = no_change (KeepsFrontNow name at) (λ x. refl) old new same
 
-pub front_on : (name : List ℕ) (at : ℕ) {a b c : Option Files} → Change (KeepsFront name at) a b → Change (KeepsFront name at) b c → Change (KeepsFront name at) a c
+pub front_on : (name : List ℕ) (at : ℕ) {a b c : Option Files} → Change (KeepsFrontNow name at) a b → Change (KeepsFrontNow name at) b c → Change (KeepsFrontNow name at) a c
 front_on name at first second = change_on first second (λ x y z r s. s ∙ r)
 
 -- less of the front
-pub front_less : (name : List ℕ) (at less : ℕ) {a b : Option Files} → less ≤ at → Change (KeepsFront name at) a b → Change (KeepsFront name less) a b
+pub front_less : (name : List ℕ) (at less : ℕ) {a b : Option Files} → less ≤ at → Change (KeepsFrontNow name at) a b → Change (KeepsFrontNow name less) a b
 front_less name at less fewer keeps = change_weaker keeps (λ x y same.
     sym (take-take less at (bytes_now (y name)) fewer) ∙ ap (take less) same ∙ take-take less at (bytes_now (x name)) fewer)
 
--- images after a further call that leaves none that was not there
-pub then_same : {step : Image → Image → Type 0} {a b c : Image → Type 0} → Follows step a b → Follows Same b c → Follows step a c
-then_same {step} first second = follows_on first second (λ i j k s same. subst (λ (image : Image). step i image) (sym same) s)
+bytes_of : (found : Option File) → (or_empty found).now ≡ bytes_now found
+bytes_of None = refl
+bytes_of (Some file) = refl
 
--- the files after a change, from those before
-pub at_old : {R : Files → Files → Type 0} {a b : Option Files} → Change R a b → (x : Files) → a ≡ Some x → (y : Files) × (b ≡ Some y) × R x y
-at_old untold x is = cc
-at_old {R} (told {old} {new} r) x is = (new, refl, let same : old ≡ x = cc in subst (λ (f : Files). R f new) same r)
+-- a creation that answered Ok, and then a sync
+pub settles : {T : Type 0} (result : Result T DiskError) (name : List ℕ) (a b c : Option Files) → Change (Created name) a b
+    → Leaves result (Changes Synced name) (Changes SyncFailed name) b c → OnOk result (Change (Settles name) a c)
+settles (Err error) name a b c created synced = tt
+settles (Ok value) name a b c created synced = change_on created synced (λ x y z made sync.
+    let old : sync.before ≡ or_empty (x name) = file_same (sym sync.was ∙ made.is) in
+    sync.is ∙ ap Some (sync.step ∙ ap (λ (file : File). settled file.now) old ∙ ap settled (bytes_of (x name))))
 
--- the files before a change, from those after
-pub at_new : {R : Files → Files → Type 0} {a b : Option Files} → Change R a b → (y : Files) → b ≡ Some y → (x : Files) × (a ≡ Some x) × R x y
-at_new untold y is = cc
-at_new {R} (told {old} {new} r) y is = (old, refl, let same : new ≡ y = cc in subst (λ (f : Files). R old f) same r)
+-- whatever a creation answers, the file reads as before
+pub create_keeps_bytes : {T : Type 0} (result : Result T DiskError) (name : List ℕ) (old new : Option Files)
+    → Leaves result (Created name) (DoneOrNot (Created name)) old new → Change (KeepsBytesNow name) old new
+create_keeps_bytes (Ok value) name old new change = change_weaker change (λ x y r. ap bytes_now r.is ∙ bytes_of (x name))
+create_keeps_bytes (Err Failed) name old new change = change_weaker change (λ x y r. elim r [
+  | inl same ↦ ap (λ (files : Files). bytes_now (files name)) same
+  | inr created ↦ ap bytes_now created.is ∙ bytes_of (x name)
+])
+create_keeps_bytes (Err NoMemory) name old new same = no_change (KeepsBytesNow name) (λ x. refl) old new same
+
+-- and so it does whatever a sync answers
+pub sync_keeps_bytes : {T : Type 0} (result : Result T DiskError) (name : List ℕ) (old new : Option Files)
+    → Leaves result (Changes Synced name) (Changes SyncFailed name) old new → Change (KeepsBytesNow name) old new
+sync_keeps_bytes (Ok value) name old new change = change_weaker change (λ x y r.
+    ap bytes_now r.is ∙ ap (λ (file : File). file.now) r.step ∙ sym (ap bytes_now r.was))
+sync_keeps_bytes (Err Failed) name old new change = change_weaker change (λ x y r. ap bytes_now r.is ∙ r.step.now ∙ sym (ap bytes_now r.was))
+sync_keeps_bytes (Err NoMemory) name old new same = no_change (KeepsBytesNow name) (λ x. refl) old new same
+
+-- a file that reads as before in one call and in another
+pub keeps_bytes_on : {name : List ℕ} {a b c : Option Files} → Change (KeepsBytesNow name) a b → Change (KeepsBytesNow name) b c → Change (KeepsBytesNow name) a c
+keeps_bytes_on first second = change_on first second (λ x y z r s. s ∙ r)

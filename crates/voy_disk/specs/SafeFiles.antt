@@ -18,5 +18,9 @@ abbrev pub Settles : List ℕ → Files → Files → Type 0
 Settles name old new = new name ≡ Some (settled (bytes_now (old name)))
 
 -- the bytes in front of the place read as before
-abbrev pub KeepsFront : List ℕ → ℕ → Files → Files → Type 0
-KeepsFront name at old new = take at (bytes_now (new name)) ≡ take at (bytes_now (old name))
+abbrev pub KeepsFrontNow : List ℕ → ℕ → Files → Files → Type 0
+KeepsFrontNow name at old new = take at (bytes_now (new name)) ≡ take at (bytes_now (old name))
+
+-- the file reads as before; an absent one reads no byte
+abbrev pub KeepsBytesNow : List ℕ → Files → Files → Type 0
+KeepsBytesNow name old new = bytes_now (new name) ≡ bytes_now (old name)
