@@ -28,7 +28,8 @@ use Rattle.voy_tables.specs.declared.change.Change.{Change}
 use Rattle.voy_tables.specs.declared.change.Change.TheVariants as change
 use Rattle.voy_tables.specs.declared.change.Role.{Role}
 use Rattle.voy_tables.specs.declared.change.Role.TheVariants as exporter
-use Rattle.voy_event.specs.LineText.{after_data, before_data, change_data, cutover_data, key_data, keyed_row, op_text, row_data, value_data, with_columns, with_text, with_texts}
+use Rattle.voy_event.specs.LineText.{after_data, before_data, change_data, cutover_data, key_data, op_text, row_data, value_data, with_columns, with_text, with_texts}
+use Rattle.voy_tables.specs.Changes.{keyed_row}
 use Rattle.voy_event.specs.Words.{text_of_role}
 
 -- ---- texts

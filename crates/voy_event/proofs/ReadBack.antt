@@ -32,10 +32,11 @@ use Rattle.voy_event.specs.EventLine.{change_event_names, cutover_names, from_on
 use Rattle.voy_event.specs.Fields.{is_column, is_key_of_row, is_null, names_in, only_if, row_at, row_with_key}
 use Rattle.voy_event.specs.Laws.{EventsReadBack}
 use Rattle.voy_event.specs.LawfulEvent.{IsLawfulChange, IsLawfulFrom}
-use Rattle.voy_event.specs.LineText.{after_data, before_data, change_data, change_data_in, cutover_data, key_data, keyed_row, line_text, row_data, what_data}
+use Rattle.voy_event.specs.LineText.{after_data, before_data, change_data, change_data_in, cutover_data, key_data, line_text, row_data, what_data}
+use Rattle.voy_tables.specs.Changes.{keyed_row}
 use Rattle.voy_tables.specs.Changes.{table_of}
 use Rattle.voy_event.specs.Words.{event_kind, in_64_bits, kind_of_text, op_of_text, role_at, role_of_text, text_of_role}
-use Rattle.voy_schema.specs.Stated.{text_at}
+use Rattle.voy_json.specs.Document.{text_at}
 use Rattle.voy_event.specs.declared.event.Event.{Event}
 use Rattle.voy_event.specs.declared.event.What.{What}
 use Rattle.voy_event.specs.declared.event.What.TheVariants as what

@@ -28,7 +28,7 @@ use Rattle.voy_event.specs.EventLine.{change_event_names, cutover_names, from_on
 use Rattle.voy_event.specs.Fields.{agrees_at, is_key_of_row, only_if, row_at, row_of, row_with_key}
 use Rattle.voy_event.specs.LawfulEvent.{IsLawful, IsLawfulChange, IsLawfulFrom, IsWritable, IsWritableWhat}
 use Rattle.voy_event.specs.Words.{event_kind, in_64_bits, number_at, role_at}
-use Rattle.voy_schema.specs.Stated.{text_at}
+use Rattle.voy_json.specs.Document.{text_at}
 use Rattle.voy_event.specs.declared.event.Event.{Event}
 use Rattle.voy_event.specs.declared.event.What.{What}
 use Rattle.voy_event.specs.declared.event.What.TheVariants as what

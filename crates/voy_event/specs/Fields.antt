@@ -11,7 +11,8 @@ use Rattle.voy_schema.specs.declared.table.Column.{Column}
 use Rattle.voy_schema.specs.declared.table.Table.{Table}
 use Rattle.voy_schema.specs.declared.value.Value.{Value}
 use Rattle.voy_schema.specs.declared.value.Value.TheVariants.{Null, Text}
-use Rattle.voy_schema.specs.Stated.{in_front, text_at}
+use Rattle.voy_json.specs.Document.{text_at}
+use Rattle.voy_schema.specs.Parts.{in_front}
 
 -- a column's value: a string or null
 abbrev pub value_of : Data → Option Value

@@ -11,7 +11,7 @@ use Rattle.voy_event.specs.ChangeLine.{PlacedTable, change_of, has_known_columns
 use Rattle.voy_event.specs.EventLine.{change_event_names, cutover_names, has_exporter, max_event_line_bytes, vsn_at}
 use Rattle.voy_event.specs.RecordedLine.{max_recorded_line_bytes, recorded_names}
 use Rattle.voy_event.specs.Words.{change_op, event_kind, number_at, role_at}
-use Rattle.voy_schema.specs.Stated.{text_at}
+use Rattle.voy_json.specs.Document.{text_at}
 use Rattle.voy_event.specs.declared.event.Event.{Event}
 use Rattle.voy_event.specs.declared.event.What.{What}
 use Rattle.voy_event.specs.declared.event.What.TheVariants as what

@@ -14,7 +14,7 @@ use Rattle.voy_event.specs.InTurn.{change_event, cutover_event, cutover_vsn, doc
 use Rattle.voy_event.specs.RecordedLine.{broken_recorded_rule, max_recorded_line_bytes, recorded_names, recorded_line_reading, stated_record}
 use Rattle.voy_event.specs.Refusal.{unless_broken}
 use Rattle.voy_event.specs.Words.{change_op, document, event_kind, number_at, or_null, role_at}
-use Rattle.voy_schema.specs.Stated.{text_at}
+use Rattle.voy_json.specs.Document.{text_at}
 use Rattle.voy_event.specs.declared.event.Event.{Event}
 use Rattle.voy_event.specs.declared.event.What.{What}
 use Rattle.voy_event.specs.declared.event.What.TheVariants as what

@@ -4,7 +4,7 @@ use Rattle.std.specs.Str.{bytes_eq}
 use Rattle.serde_json.specs.Data.{Data, null}
 use Rattle.serde_json.specs.Find.{as_number, as_u64, get}
 use Rattle.voy_json.specs.Document.{data_of_bytes}
-use Rattle.voy_schema.specs.Stated.{text_at}
+use Rattle.voy_json.specs.Document.{text_at}
 use Rattle.voy_event.specs.declared.words.EventKind.{EventKind}
 use Rattle.voy_event.specs.declared.words.EventKind.TheVariants.{Change, CutoverTarget, CutoverSource}
 use Rattle.voy_event.specs.declared.words.Op.{Op}

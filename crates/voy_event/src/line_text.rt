@@ -2,16 +2,16 @@ ghost use Rattle.std.specs.Prelude.{◌≡◌, ◌++◌, slice_get, IfOk, OnOk, 
 ghost use Rattle.serde_json.specs.View.{members_view, view};
 ghost use Rattle.voy_schema.specs.Rows.{text_of, value_at};
 ghost use Rattle.voy_event.specs.LawfulEvent.{IsWritable, IsWritableChange};
-ghost use Rattle.voy_event.specs.LineText.{after_data, before_data, change_data, cutover_data, event_data, key_data, keyed_row, line_text, op_text, row_data, value_data, with_text};
+ghost use Rattle.voy_event.specs.LineText.{after_data, before_data, change_data, cutover_data, event_data, key_data, line_text, op_text, row_data, value_data, with_text};
+ghost use Rattle.voy_tables.specs.Changes.{keyed_row};
 ghost use Rattle.voy_tables.specs.Changes.{table_of};
 
 use crate::event::{Event, What};
-use crate::fields::text_in;
 use crate::words::text_of_role;
 use serde_json::{Map, Value as Json, json};
 use std::alloc::{AllocError, Global};
 use voy_schema::{Bytes, Column, Row, Schema, Table, Value};
-use voy_tables::{Change, Role};
+use voy_tables::{Change, Role, key_text};
 
 /// Appends the canonical text of the event's line to `to`, without LF. It asks an event that belongs to
 /// the schema, with a vsn from 1. After an error `to` is as before.
@@ -179,6 +179,6 @@ fn put_text(
     let Some(column) = table.columns.get(place as usize) else {
         return Ok(());
     };
-    let text = String::from_str(alloc, text_in(row, place))?;
+    let text = String::from_str(alloc, key_text(row, place))?;
     serde_json::put(found, alloc, column.name.as_str(), Json::String(text))
 }
