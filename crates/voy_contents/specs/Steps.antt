@@ -1,5 +1,5 @@
 -- A change of one row of a table in memory, made ready so that to do it takes no memory.
-use Rattle.std.specs.Prelude.{◌≡◌, ℕ, true, List, None}
+use Rattle.std.specs.Prelude.{◌≡◌, true, List, None}
 use Rattle.std.specs.BTreeMap.{is_at}
 use Rattle.std.specs.Map.{lookup}
 use Rattle.std.specs.Option.{IsSome}
