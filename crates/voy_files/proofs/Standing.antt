@@ -1,5 +1,5 @@
 -- Where a reader stands in its file, before and after a piece of it.
-use Rattle.std.proofs.Common.{◌≡◌, ℕ, ◌+◌, ◌<◌, Bool, true, false, MatchBool, [], ◌∷◌, ◌++◌, length, ap, ◌∙◌, sym, arith, length-append}
+use Rattle.std.proofs.Common.{◌≡◌, ℕ, ◌+◌, ◌<◌, Bool, true, false, [], ◌∷◌, ◌++◌, length, ap, ◌∙◌, arith, length-append}
 use Rattle.voy_files.specs.Reader.{IsSameFile, StandsAt, TakesPiece, bytes_taken, found_line, has_line_feed, held}
 use Rattle.voy_files.specs.declared.line_reader.LineReader.{LineReader}
 use Rattle.voy_files.proofs.Reading.{at_false, at_true}
