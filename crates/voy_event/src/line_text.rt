@@ -36,7 +36,7 @@ fn event_value(alloc: Global, schema: &Schema, event: &Event) -> Result<Json, Al
 {
     match &event.what {
         What::Change(change) => {
-            let table = table_of(schema, change);
+            let table = changed_table(schema, change);
             change_value(alloc, table, event.vsn, event.role, change)
         }
         What::CutoverTarget => cutover_value(alloc, "cutover.target", event.vsn, event.role),
@@ -44,7 +44,7 @@ fn event_value(alloc: Global, schema: &Schema, event: &Event) -> Result<Json, Al
     }
 }
 
-fn table_of<'a>(schema: &'a Schema, change: &Change) -> &'a Table
+fn changed_table<'a>(schema: &'a Schema, change: &Change) -> &'a Table
     requires { IsWritableChange schema.now.tables change.now }
     ensures { slice_get schema.now.tables (table_of change.now) ≡ Some result.now }
 {
