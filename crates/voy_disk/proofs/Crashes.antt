@@ -14,7 +14,7 @@ use Rattle.std.specs.Str.{bytes_eq}
 use Rattle.voy_disk.specs.File.{File, IsImage, settled}
 use Rattle.voy_disk.specs.Images.{IsLeftAt, image_left, none_left, Outage}
 use Rattle.voy_disk.specs.MemFiles.{IsLeftOf, file_of, files_of}
-use Rattle.voy_disk.specs.declared.file.MemFile.{MemFile}
+use Rattle.voy_disk.specs.declared.memory.file.MemFile.{MemFile}
 
 -- a list up to a place and another from there on read as the one before the place, and as the other from it on
 mixed_gets : (at : ℕ) (front behind : List ℕ) → at ≤ length front → (place : ℕ) → (slice_get (take at front ++ drop at behind) place ≡ slice_get front place) ⊎ (slice_get (take at front ++ drop at behind) place ≡ slice_get behind place)

@@ -1,7 +1,7 @@
 mod Crashes
 mod Growing
 mod Leaving
-mod MemNames
+mod Listing
 mod Ranges
 mod Untold
 mod Updates

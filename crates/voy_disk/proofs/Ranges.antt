@@ -5,7 +5,7 @@ use Rattle.std.proofs.lemmas.Option.{slice_get_past}
 use Rattle.voy_disk.specs.File.{Outside, Untouched, written}
 use Rattle.std.proofs.lemmas.List.{take-append-drop, take_all}
 use Rattle.voy_disk.specs.FileLaws.{same_front}
-use Rattle.voy_disk.specs.MemFile.{lowest_of}
+use Rattle.voy_disk.specs.Lowest.{lowest_of}
 
 nothing_behind : (bytes : List ℕ) (place : ℕ) → length bytes ≤ place → slice_get (bytes ++ []) place ≡ None
 nothing_behind [] place past = refl

@@ -2,16 +2,28 @@
 use Rattle.std.proofs.Common.{true≢false, Option, ◌≡◌, ◌≢◌, ◌∙◌, ap, ℕ, List, [], Bool, Some, None, is_some, refl, sym, true, false}
 use Rattle.std.specs.BTreeMap.{BTreeMap, get_by_text}
 use Rattle.std.specs.Map.{update}
+use Rattle.std.specs.Option.{IsSome, option_copied_mut, option_map}
+use denote.Ref.{MutBor}
 use Rattle.std.specs.Prelude.{String}
 use Rattle.std.specs.Str.{bytes_eq}
 use Rattle.std.proofs.lemmas.Slice.Eq.{bytes_eq-Decides}
 use Rattle.std.proofs.lemmas.Bool.{false_from_ne_true}
 use Rattle.std.proofs.lemmas.Option.{none-some}
-use Rattle.voy_disk.specs.declared.file.MemFile.{MemFile}
+use Rattle.voy_disk.specs.declared.memory.file.MemFile.{MemFile}
 use Rattle.voy_disk.specs.File.{File, settled}
 use Rattle.voy_disk.specs.Files.{Puts}
-use Rattle.voy_disk.specs.Calls.{Changes, Created, Renamed}
+use Rattle.voy_disk.specs.Calls.{Changes, Created, IsThereWith, Renamed}
 use Rattle.voy_disk.specs.MemFiles.{files_of, file_of}
+
+-- where a file is there, the disk has one
+found_there : (P : File → Type 0) (found : Option MemFile) → IsThereWith P (option_map file_of found) → IsSome found
+found_there P None is_there = absurd is_there
+found_there P (Some file) is_there = refl
+
+-- where a file is at the place that was lent, a place was lent
+pub lent_some : (lent : Option (MutBor MemFile)) (file : MemFile) → option_copied_mut lent ≡ Some file → IsSome lent
+lent_some None file is = absurd (none-some file is)
+lent_some (Some place) file is = refl
 
 nothing_there : (found : Option MemFile) → is_some found ≡ false → found ≡ None
 nothing_there None free = refl
@@ -54,19 +66,37 @@ module _ {Y : Type 0} where
       let absent : get_by_text old name ≡ None = nothing_there (get_by_text old name) free in
       record { is = rw absent put.is; others = put.others }
 
-  -- the file went by another name, which was free
-  pub renames : (old mid new : BTreeMap (String Y) MemFile) (from to : List ℕ) (file copy : MemFile) → get_by_text old from ≡ Some file → files_of old to ≡ None → ((q : List ℕ) → get_by_text mid q ≡ update bytes_eq (get_by_text old) to (Some copy) q) → ((q : List ℕ) → get_by_text new q ≡ update bytes_eq (get_by_text mid) from None q) → file_of copy ≡ file_of file → Renamed from to (files_of old) (files_of new)
-  renames old mid new from to file copy was free put removed same =
-      let found : files_of old from ≡ Some (file_of file) = rw was refl in
-      let differs : to ≢ from = λ alike. none-some (file_of file) (sym free ∙ ap (files_of old) alike ∙ found) in
-      let apart : bytes_eq from to ≡ false = false_from_ne_true _ (λ alike. differs (sym ((bytes_eq-Decides from to).0 alike))) in
-      let itself : bytes_eq to to ≡ true = (bytes_eq-Decides to to).1 refl in
-      let here : bytes_eq from from ≡ true = (bytes_eq-Decides from from).1 refl in
-      record {
-        moved = rw (removed to, apart, put to, itself, same, was) refl;
-        gone = rw (removed from, here) refl;
-        others = λ q not_from not_to.
-            let a : bytes_eq from q ≡ false = false_from_ne_true _ (λ alike. not_from (sym ((bytes_eq-Decides from q).0 alike))) in
-            let b : bytes_eq to q ≡ false = false_from_ne_true _ (λ alike. not_to (sym ((bytes_eq-Decides to q).0 alike))) in
-            rw (removed q, a, put q, b) refl;
-      }
+  -- a file that goes by another name, which is free: an empty one takes that name first, and then the file its place
+  module _ (old mid less : BTreeMap (String Y) MemFile) (from to : List ℕ) (empty : MemFile) (is_there : IsThereWith (λ _. Unit {0}) (files_of old from)) (free : files_of old to ≡ None) (put : (q : List ℕ) → get_by_text mid q ≡ update bytes_eq (get_by_text old) to (Some empty) q) where
+    differs : to ≢ from
+    differs alike = absurd (rw (sym alike, free) at is_there)
+
+    to_from : bytes_eq to from ≡ false
+    to_from = false_from_ne_true _ (λ alike. differs ((bytes_eq-Decides to from).0 alike))
+
+    from_to : bytes_eq from to ≡ false
+    from_to = false_from_ne_true _ (λ alike. differs (sym ((bytes_eq-Decides from to).0 alike)))
+
+    same_to : bytes_eq to to ≡ true
+    same_to = (bytes_eq-Decides to to).1 refl
+
+    -- the file is still at its old name
+    pub still_there : IsSome (get_by_text mid from)
+    still_there = rw (put from, to_from) (found_there (λ _. Unit {0}) (get_by_text old from) is_there)
+
+    -- the empty one is at the new name
+    pub empty_there : ((q : List ℕ) → get_by_text less q ≡ update bytes_eq (get_by_text mid) from None q) → get_by_text less to ≡ Some empty
+    empty_there removed = rw (removed to, from_to, put to, same_to) refl
+
+    -- and in the end the file is there
+    pub renames : (new : BTreeMap (String Y) MemFile) (file : MemFile) → get_by_text mid from ≡ Some file → ((q : List ℕ) → get_by_text less q ≡ update bytes_eq (get_by_text mid) from None q) → ((q : List ℕ) → get_by_text new q ≡ update bytes_eq (get_by_text less) to (Some file) q) → Renamed from to (files_of old) (files_of new)
+    renames new file found removed set =
+        let was : get_by_text old from ≡ Some file = rw (put from, to_from) at found in
+        record {
+          moved = rw (set to, same_to, was) refl;
+          gone = let here : bytes_eq from from ≡ true = (bytes_eq-Decides from from).1 refl in rw (set from, to_from, removed from, here) refl;
+          others = λ q not_from not_to.
+              let a : bytes_eq from q ≡ false = false_from_ne_true _ (λ alike. not_from (sym ((bytes_eq-Decides from q).0 alike))) in
+              let b : bytes_eq to q ≡ false = false_from_ne_true _ (λ alike. not_to (sym ((bytes_eq-Decides to q).0 alike))) in
+              rw (set q, b, removed q, a, put q, b) refl;
+        }

@@ -1,7 +1,7 @@
 -- What the calls of a disk do to its files.
 use Rattle.std.specs.Prelude.{◌≡◌, ◌≢◌, ◌⊎◌, ◌-◌, ℕ, true, List, [], length, take, Option, Some, None, Result, Ok, Err, is_some, slice_get}
 use Rattle.std.specs.Cmp.Lexicographic.{slice_cmp}
-use Rattle.std.specs.List.{list_any}
+use Rattle.std.specs.List.{list_all, list_any}
 use Rattle.std.specs.List.Sorted.{IsStrictlySortedBy}
 use Rattle.std.specs.Ordering.{nat_cmp}
 use Rattle.std.specs.Str.{bytes_eq}
@@ -17,10 +17,11 @@ abbrev pub IsThereWith : (File → Type 0) → Option File → Type 0
 IsThereWith P None = ⊥
 IsThereWith P (Some file) = P file
 
--- these are the names of all files, each once, in byte order
+-- these are names, those of all files, each once, in byte order
 pub record Lists (files : Files) (names : List (List ℕ)) : Type 0 where
   pub has : (name : List ℕ) → is_name name ≡ true → list_any (bytes_eq name) names ≡ is_some (files name)
   pub ascend : IsStrictlySortedBy (slice_cmp nat_cmp) names
+  pub valid : list_all is_name names ≡ true
 
 -- a change of the files of a disk that tells them; a disk that tells none tells none afterwards
 pub data Change (R : Files → Files → Type 0) : Option Files → Option Files → Type 0 where

@@ -1,6 +1,6 @@
 -- What contracts see of a real folder.
 use Rattle.std.specs.Prelude.{ℕ, List, ◌++◌, ◌∷◌, string_bytes}
-use Rattle.voy_disk.specs.declared.host_disk.HostDisk.{HostDisk}
+use Rattle.voy_disk.specs.declared.host.disk.HostDisk.{HostDisk}
 
 module _ {R : Type 0} where
   -- the path of the folder

@@ -15,8 +15,8 @@ pub mod HostDisk
 pub mod HostSink
 pub mod ImageLaws
 pub mod Images
+pub mod Lowest
 pub mod MemDisk
-pub mod MemFile
 pub mod MemFiles
 pub mod MemSink
 pub mod Name

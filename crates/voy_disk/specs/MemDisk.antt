@@ -1,7 +1,9 @@
 -- What contracts see of a disk in memory whose calls fail by a plan.
-use Rattle.std.specs.Prelude.{◌≡◌, ◌||◌, ℕ, Bool}
-use Rattle.voy_disk.specs.declared.mem_disk.MemDisk.{MemDisk}
-use Rattle.voy_disk.specs.declared.plan.FaultPlan.{FaultPlan}
+use Rattle.std.specs.Prelude.{◌≡◌, ◌||◌, ℕ, Bool, Result, Ok, Err}
+use Rattle.voy_disk.specs.declared.disk.DiskError.{DiskError}
+use Rattle.voy_disk.specs.declared.disk.DiskError.TheVariants.{Failed, NoMemory}
+use Rattle.voy_disk.specs.declared.memory.disk.MemDisk.{MemDisk}
+use Rattle.voy_disk.specs.declared.memory.plan.FaultPlan.{FaultPlan}
 use Rattle.voy_disk.specs.Faults.{count_after}
 use Rattle.voy_disk.specs.Files.{Files}
 use Rattle.voy_disk.specs.MemFiles.{files_of}
@@ -30,6 +32,12 @@ mem_disk_dead disk = disk.dead
 -- the plan has the number of the next call
 abbrev pub fails_next : MemDisk → Bool
 fails_next disk = has_planned disk.plan (count_after disk.calls)
+
+-- the count of faults after a call that answers so: one higher where the disk failed
+abbrev pub faults_after : {T : Type 0} → ℕ → Result T DiskError → ℕ
+faults_after faults (Ok value) = faults
+faults_after faults (Err Failed) = count_after faults
+faults_after faults (Err NoMemory) = faults
 
 -- a call was counted, and the plan stays; by it the disk may be dead now
 pub record CountsCall (old new : MemDisk) : Type 0 where

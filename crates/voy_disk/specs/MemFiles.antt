@@ -4,7 +4,7 @@ use Rattle.std.proofs.Common.{arith}
 use Rattle.std.specs.BTreeMap.{BTreeMap, get_by_text}
 use Rattle.std.specs.Option.{option_map}
 use denote.Ref.{Bor}
-use Rattle.voy_disk.specs.declared.file.MemFile.{MemFile}
+use Rattle.voy_disk.specs.declared.memory.file.MemFile.{MemFile}
 use Rattle.std.specs.declared.alloc.AllocError.{AllocError}
 use Rattle.voy_disk.specs.declared.disk.DiskError.{DiskError}
 use Rattle.voy_disk.specs.declared.disk.DiskError.TheVariants.{NoMemory}

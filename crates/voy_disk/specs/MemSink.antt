@@ -1,6 +1,6 @@
 -- What contracts see of a sink in memory.
 use Rattle.std.specs.Prelude.{ℕ, List, Bool, ◌&&◌, nat_lt, nat_le}
-use Rattle.voy_disk.specs.declared.mem_sink.MemSink.{MemSink}
+use Rattle.voy_disk.specs.declared.memory.sink.MemSink.{MemSink}
 use Rattle.voy_disk.specs.Faults.{count_after}
 
 -- all bytes that were written to it

@@ -1,7 +1,7 @@
 -- Which calls of a disk in memory fail.
 use Rattle.std.specs.Prelude.{ℕ, Bool, ◌==◌, ◌&&◌, ◌||◌, nat_le, nat_lt}
 use Rattle.std.specs.List.{list_any}
-use Rattle.voy_disk.specs.declared.plan.FaultPlan.{FaultPlan}
+use Rattle.voy_disk.specs.declared.memory.plan.FaultPlan.{FaultPlan}
 
 -- the plan has a number from which all calls fail, and this call has come to it
 abbrev pub is_dead_at : FaultPlan → ℕ → Bool

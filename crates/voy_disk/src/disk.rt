@@ -28,9 +28,13 @@ pub trait Disk {
     ghost faults: { Self → ℕ };
 
     /// Through which references the disk is lent, the outermost first; none for a disk that is owned.
+    ///
+    /// A struct over a lent disk could swap its reference for another one, and its caller, when the loan ends,
+    /// would know nothing of the disk that it lent. So each call says that the lender stays, as does each
+    /// call of a store over a disk: then what a call says of the disk is said of the caller's own.
     ghost lender: { Self → List GName };
 
-    /// The names of all files, in byte order. No file changes.
+    /// The names of all files, each once, in byte order. No file changes.
     fn list(&mut self) -> Result<Names, DiskError>
         ensures names { IfOk result (λ names. IfTold (files self.old) (λ fs. Lists fs names)) }
         ensures same { files self.new ≡ files self.old }

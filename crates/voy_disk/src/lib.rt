@@ -19,41 +19,25 @@
 //! - `Place` has the four disks of a move. A file on a disk goes by its `Name`.
 #![tactic(auto)]
 
-mod answering;
 mod disk;
-mod file;
-mod host_disk;
-mod host_files;
-mod host_sink;
+mod host;
 mod laws;
-mod mem_changes;
-mod mem_crash;
-mod mem_disk;
-mod mem_file;
-mod mem_files;
-mod mem_names;
-mod mem_sink;
+mod memory;
 mod name;
 mod names;
 mod numbers;
 mod place;
-mod plan;
 mod refusals;
 mod sink;
-mod sure_disk;
 mod writing;
 
 pub use disk::{Disk, DiskError};
-pub use host_disk::HostDisk;
-pub use host_sink::HostSink;
+pub use host::{HostDisk, HostSink};
 pub use laws::{frames_add_up, fronts_are_settled, outages_settle};
-pub use mem_disk::MemDisk;
-pub use mem_sink::MemSink;
+pub use memory::{FaultPlan, MemDisk, MemSink, SureDisk};
 pub use name::{MAX_NAME_BYTES, Name};
 pub use names::Names;
 pub use numbers::Numbers;
 pub use place::Place;
-pub use plan::FaultPlan;
 pub use sink::{Sink, SinkError};
-pub use sure_disk::SureDisk;
 pub use writing::write_all;

@@ -31,6 +31,20 @@ impl Names {
         }
     }
 
+    /// The names of a vector, in its order.
+    pub fn from_vec(items: Vec<Name>) -> Names
+        ensures { result ≡ items.items }
+    {
+        Names { items }
+    }
+
+    /// The vector of the names, in their order.
+    pub fn into_vec(self) -> Vec<Name>
+        ensures { result.items ≡ self }
+    {
+        self.items
+    }
+
     /// Adds a name behind the others. After an error nothing changed.
     pub fn push(&mut self, name: Name) -> Result<(), AllocError>
         ensures ok { OnOk result (self.new ≡ self.old ++ (name ∷ [])) }

@@ -3,3 +3,4 @@ pub mod Finding
 pub mod Lengths
 pub mod Pieces
 pub mod Reading
+pub mod Standing

@@ -23,11 +23,11 @@ moved start line line' held bytes more behind behind' read takes longer same =
     read ∙ ap (λ h. line ++ (h ++ behind)) takes ∙ ap (λ rest. line ++ rest) (append_assoc bytes more behind)
     ∙ sym (append_assoc line bytes (more ++ behind)) ∙ ap (λ l. l ++ (more ++ behind)) (sym longer) ∙ ap (λ b. line' ++ (more ++ b)) (sym same)
 
-at_true : (t : Bool) (P Q : Type 0) → t ≡ true → MatchBool t P Q → P
+pub at_true : (t : Bool) (P Q : Type 0) → t ≡ true → MatchBool t P Q → P
 at_true true P Q is p = p
 at_true false P Q is q = cc
 
-at_false : (t : Bool) (P Q : Type 0) → t ≡ false → MatchBool t P Q → Q
+pub at_false : (t : Bool) (P Q : Type 0) → t ≡ false → MatchBool t P Q → Q
 at_false true P Q is p = cc
 at_false false P Q is q = q
 

@@ -11,9 +11,17 @@ OfBytes files name P = (fs : Files) → files ≡ Some fs → P (bytes_now (fs n
 abbrev pub held : ByteReader → List ℕ
 held reader = drop reader.from reader.piece.items
 
+-- the bytes from one offset up to another
+abbrev pub bytes_between : ℕ → ℕ → List ℕ → List ℕ
+bytes_between start end bytes = drop start (take end bytes)
+
 -- bytes of a file that were not taken yet
 abbrev pub unread : ByteReader → List ℕ → List ℕ
-unread reader bytes = held reader ++ drop reader.at (take reader.end bytes)
+unread reader bytes = held reader ++ bytes_between reader.at reader.end bytes
+
+-- the next byte to be taken is the one at this offset of the file
+abbrev pub StandsAt : ByteReader → ℕ → Type 0
+StandsAt reader offset = reader.at ≡ offset + length (held reader)
 
 -- at most how many they are, on any disk
 abbrev pub bytes_left : ByteReader → ℕ

@@ -2,3 +2,4 @@ pub mod Lines
 pub mod LineLaws
 pub mod Bytes
 pub mod Reader
+pub mod RangeLaws

@@ -2,7 +2,7 @@ ghost use Rattle.std.specs.Prelude.{◌≡◌, ◌-◌, ◌^◌, ◌+◌, ◌≤
 ghost use Rattle.std.specs.Int.{w32, to_be_bytes};
 ghost use Rattle.voy_disk.specs.Faults.{HasCause};
 ghost use Rattle.voy_disk.specs.Files.{IfTold, bytes_now};
-ghost use Rattle.voy_files.specs.Bytes.{OfBytes, bytes_left, held, unread};
+ghost use Rattle.voy_files.specs.Bytes.{OfBytes, StandsAt, bytes_between, bytes_left, held, unread};
 
 use std::alloc::{AllocError, Global};
 use voy_disk::{Disk, DiskError, Name};
@@ -10,11 +10,11 @@ use voy_disk::{Disk, DiskError, Name};
 /// How many bytes are read from a disk at a time.
 pub const PIECE_BYTES: usize = 65536;
 
-/// Takes the bytes of a file from its beginning on, of which it holds a piece of at most
+/// Takes the bytes of a file one after the other, of which it holds a piece of at most
 /// [`PIECE_BYTES`] at a time.
 ///
-/// Each call is given the disk and the name of the file. The reader reads up to the length that it was
-/// made with. After an error, and after a part or a number that was not whole, it is given up.
+/// Each call is given the disk and the name of the file. The reader reads from the offset and up to the
+/// end that it was made with. After an error, and after a part or a number that was not whole, it is given up.
 #[derive(Debug, Drop)]
 pub struct ByteReader {
     /// The place in the file of the next piece.
@@ -31,9 +31,19 @@ impl ByteReader {
     pub fn new(alloc: Global, end: u64) -> ByteReader
         ensures unread { (bytes : List ℕ) → unread result bytes ≡ take end bytes }
         ensures left { bytes_left result ≡ end }
+        ensures stands { StandsAt result 0 }
+    {
+        ByteReader::between(alloc, 0, end)
+    }
+
+    /// A reader of the bytes of a file from one offset up to another. A file that ends before has fewer.
+    pub fn between(alloc: Global, start: u64, end: u64) -> ByteReader
+        ensures unread { (bytes : List ℕ) → unread result bytes ≡ bytes_between start end bytes }
+        ensures left { bytes_left result ≡ end - start }
+        ensures stands { StandsAt result start }
     {
         ByteReader {
-            at: 0,
+            at: start,
             end,
             piece: Vec::new(alloc),
             from: 0,
@@ -50,6 +60,7 @@ impl ByteReader {
             MatchOption found (fs name.now ≡ None) (λ reader. unread reader (bytes_now (fs name.now)) ≡ bytes_now (fs name.now)))) }
         ensures found { IfOk result (λ found. IfTold (D.files disk.old) (λ fs. is_some found ≡ is_some (fs name.now))) }
         ensures few { IfOk result (λ found. IfSome found (λ reader. bytes_left reader < 2 ^ 63)) }
+        ensures stands { IfOk result (λ found. IfSome found (λ reader. StandsAt reader 0)) }
         ensures same { D.files disk.new ≡ D.files disk.old }
         ensures cause { HasCause DiskError.Failed (D.faults disk.old) (D.faults disk.new) result }
         ensures lender { D.lender disk.new ≡ D.lender disk.old }
@@ -65,6 +76,7 @@ impl ByteReader {
         ensures held { IfOk result (λ some. IsTrue some → 0 < length (held self.new)) }
         ensures none { IfOk result (λ some. OfBytes (D.files disk.old) name.now (λ bytes. IsFalse some → unread self.old bytes ≡ [])) }
         ensures unread { IfOk result (λ some. OfBytes (D.files disk.old) name.now (λ bytes. unread self.new bytes ≡ unread self.old bytes)) }
+        ensures stands { IfOk result (λ some. (offset : ℕ) → StandsAt self.old offset → StandsAt self.new offset) }
         ensures fewer { IfOk result (λ some. bytes_left self.new ≤ bytes_left self.old) }
         ensures same { D.files disk.new ≡ D.files disk.old }
         ensures cause { HasCause DiskError.Failed (D.faults disk.old) (D.faults disk.new) result }
@@ -191,6 +203,14 @@ impl ByteReader {
         to.extend_from_slice(&held[..count])?;
         self.skip(count);
         Ok(())
+    }
+
+    /// The offset in the file of the next byte.
+    pub fn offset(&self) -> u64
+        ensures { (offset : ℕ) → StandsAt self.now offset → result ≡ offset }
+    {
+        let held = self.piece.len().saturating_sub(self.from) as u64;
+        self.at.saturating_sub(held)
     }
 
     /// At most how many bytes are left; the last number of its type where they are more.

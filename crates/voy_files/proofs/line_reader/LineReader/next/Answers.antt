@@ -2,6 +2,7 @@ use Rattle.std.proofs.Common.{arith, ◌≡◌, ◌∙◌, ap, sym, [], length, 
 use Rattle.voy_files.specs.Reader.{found_line, line_limit, unread}
 use Rattle.voy_files.proofs.Finding.{finds_with, long_line}
 use Rattle.voy_files.proofs.Reading.{still_read, reads_to_feed, reads_on, fewer_left}
+use Rattle.voy_files.proofs.Standing.{no_feed, stands_behind, stands_last, stands_on, still_stands}
 use Rattle.voy_files.proofs.line_reader.LineReader.next.Goals as goal
 
 pub returns-then-branch-clause-found : goal.returns-then-branch-clause-found
@@ -36,7 +37,34 @@ returns-then-branch-2-clause-found g c =
     c.in_ok-take_piece.ensures.took c.in_ok-take_piece.ensures.file c.if-branch-2.true in
     finds_with c.whole_found.result (line_limit after) (line_limit first) (found_line after) (unread first fs) (unread after fs) (unread after fs)
     (sym (c.in_ok-take_piece.ensures.file.limit ∙ c.in_ok-is_at_end.ensures.limit ∙ c.loop-self.invariant.limit)) refl
-    (c.whole_found.ensures (unread first fs) (unread after fs) read))
+    (c.whole_found.ensures.finds (unread first fs) (unread after fs) read))
+
+pub returns-then-branch-clause-stands : goal.returns-then-branch-clause-stands
+returns-then-branch-clause-stands g c =
+    let was = c.loop-self.self in
+    let reader = c.is_at_end.new.self in
+    λ line offset stands.
+    stands_last reader (c.in_ok-is_at_end.ensures.ended ∙ c.loop-self.invariant.ended) offset
+    (still_stands was reader c.in_ok-is_at_end.ensures.line offset (c.in_ok-is_at_end.ensures.stands _ (c.loop-self.invariant.stands offset stands)))
+
+pub returns-then-branch-clause-stays : goal.returns-then-branch-clause-stays
+returns-then-branch-clause-stays g c =
+    let was = c.loop-self.self in
+    let reader = c.is_at_end.new.self in
+    λ end offset stands.
+    omega (arith, c.last_found.ensures.none end, still_stands was reader c.in_ok-is_at_end.ensures.line offset (c.in_ok-is_at_end.ensures.stands _ (c.loop-self.invariant.stands offset stands)))
+
+pub returns-then-branch-2-clause-stands : goal.returns-then-branch-2-clause-stands
+returns-then-branch-2-clause-stands g c =
+    let was = c.loop-self.self in
+    let reader = c.is_at_end.new.self in
+    let after = c.take_piece.new.self in
+    λ line offset stands.
+    stands_behind c.in_ok-take_piece.field-0 reader after c.in_ok-take_piece.ensures.took c.in_ok-take_piece.ensures.file c.if-branch-2.true offset
+    (still_stands was reader c.in_ok-is_at_end.ensures.line offset (c.in_ok-is_at_end.ensures.stands _ (c.loop-self.invariant.stands offset stands)))
+
+pub returns-then-branch-2-clause-stays : goal.returns-then-branch-2-clause-stays
+returns-then-branch-2-clause-stays g c = λ end. absurd (c.whole_found.ensures.some end)
 
 pub returns-clause-found : goal.returns-clause-found
 returns-clause-found g c =
@@ -53,6 +81,8 @@ loop-self-init g c = record {
       c.clear.ensures.items refl (record { split = refl; one = refl }));
   same = refl;
   fewer = omega (arith, ap length c.clear.ensures.items);
+  stands = λ offset stands. omega (arith, stands, ap length c.clear.ensures.items);
+  ended = refl;
   limit = refl;
   later = omega arith;
   lender = refl;
@@ -81,6 +111,10 @@ loop-self-preserved g c =
         ap length c.in_ok-is_at_end.ensures.line,
         fewer_left c.in_ok-take_piece.field-0 reader after c.in_ok-take_piece.ensures.took c.in_ok-take_piece.ensures.file c.if-branch-2.false,
       );
+      stands = λ offset stands.
+          stands_on c.in_ok-take_piece.field-0 reader after c.in_ok-take_piece.ensures.took c.in_ok-take_piece.ensures.file c.if-branch-2.false offset
+          (still_stands was reader c.in_ok-is_at_end.ensures.line offset (c.in_ok-is_at_end.ensures.stands _ (c.loop-self.invariant.stands offset stands)));
+      ended = no_feed c.in_ok-take_piece.field-0 reader after c.in_ok-take_piece.ensures.took c.in_ok-take_piece.ensures.file c.if-branch-2.false (c.in_ok-is_at_end.ensures.ended ∙ c.loop-self.invariant.ended);
       limit = c.in_ok-take_piece.ensures.file.limit ∙ c.in_ok-is_at_end.ensures.limit ∙ c.loop-self.invariant.limit;
       later = omega (arith, c.in_ok-is_at_end.ensures.cause.later);
       lender = c.in_ok-is_at_end.ensures.lender ∙ c.loop-self.invariant.lender;

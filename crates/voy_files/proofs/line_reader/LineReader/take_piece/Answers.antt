@@ -1,4 +1,4 @@
-use Rattle.std.proofs.Common.{arith, ◌≡◌, ◌+◌, ◌++◌, ◌∷◌, ap, sym, ◌∙◌, take, drop, length}
+use Rattle.std.proofs.Common.{arith, refl, ◌≡◌, ◌+◌, ◌++◌, ◌∷◌, ap, sym, ◌∙◌, take, drop, length}
 use Rattle.std.proofs.lemmas.List.{drop_all}
 use Rattle.voy_files.specs.Bytes.{held}
 use Rattle.voy_files.proofs.Feeds.{splits_at, one_line}
@@ -14,6 +14,7 @@ returns-in_ok-extend_from_slice-in-Some-clause-took c =
       bytes = take k given;
       one = parts.one;
       line = c.in_ok-extend_from_slice-in-Some.ensures.items;
+      feed = refl;
       rest = sym same ∙ parts.is ∙ ap (λ rest. take k given ++ (10 ∷ rest)) (ap (drop (k + 1)) same ∙ sym c.skip.ensures.held);
     }
 
@@ -25,6 +26,7 @@ returns-in_ok-extend_from_slice-in-None-clause-took c =
       bytes = given;
       one = one_line given (sym c.in-None.ensures);
       line = c.in_ok-extend_from_slice-in-None.ensures.items;
+      feed = refl;
       rest = (
         sym same,
         c.skip-in-None.ensures.held ∙ drop_all (length given) (held c.args.self.now.bytes) (omega (arith, ap length same)),

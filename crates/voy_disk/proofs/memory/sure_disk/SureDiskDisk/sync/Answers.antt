@@ -1,0 +1,9 @@
+use Rattle.std.proofs.Common.{true≢false, Ok}
+use Rattle.voy_disk.specs.Calls.{Changes, Synced, SyncFailed}
+use Rattle.voy_disk.specs.MemFiles.{files_of}
+use Rattle.voy_disk.proofs.Leaving.{leaves}
+use Rattle.voy_disk.proofs.memory.sure_disk.SureDiskDisk.sync.Goals as goal
+
+pub returns-clause-files : goal.returns-clause-files
+returns-clause-files c =
+    rw c.answer.ensures (leaves (Changes Synced c.args.name.now) (Changes SyncFailed c.args.name.now) (files_of c.args.self.now.files) (files_of c.sync_in-done.new.files) _ (Ok tt) c.sync_in-done.result tt (λ is done. done) (λ never. absurd (true≢false never)) c.sync_in-done.ensures.ok c.sync_in-done.ensures.err)
