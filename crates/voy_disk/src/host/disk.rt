@@ -1,4 +1,4 @@
-ghost use Rattle.std.specs.Prelude.{◌≡◌, ◌≤◌, ◌<◌, ◌+◌, ◌^◌, [], None, Ok, Err, IfOk, IfErr, OnOk, length, string_bytes, vec_capacity, vec_len};
+ghost use Rattle.std.specs.Prelude.{◌≡◌, ◌≤◌, ◌<◌, ◌+◌, ◌^◌, [], None, Ok, Err, IfOk, IfErr, IsErr, IsErrOf, IsTrue, OnOk, length, string_bytes, vec_capacity, vec_len};
 ghost use Rattle.voy_disk.specs.Faults.{HasCause, Rose};
 
 use crate::disk::{Disk, DiskError};
@@ -43,7 +43,7 @@ pub struct HostDisk<R: Files> {
 }
 
 impl<R: Files + Drop> HostDisk<R> {
-    ghost use Rattle.voy_disk.specs.HostDisk.{host_disk_folder, host_disk_faults, host_disk_path};
+    ghost use Rattle.voy_disk.specs.HostDisk.{KeepsLost, has_lost, host_disk_folder, host_disk_faults, host_disk_path};
 
     /// The folder with this path. Nothing is read or made yet.
     pub fn new(host: R, alloc: Global, folder: &str) -> Result<HostDisk<R>, AllocError>
@@ -139,6 +139,7 @@ impl<R: Files + Drop> HostDisk<R> {
 
     // The file, open for reads, or `None` where there is none.
     fn open_to_read(&mut self, name: &Name) -> Result<Option<Opened<R::File>>, DiskError>
+        ensures lost { self.new.lost ≡ self.old.lost }
         ensures folder { host_disk_folder self.new ≡ host_disk_folder self.old }
         ensures cause { HasCause DiskError.Failed (host_disk_faults self.old) (host_disk_faults self.new) result }
     {
@@ -151,7 +152,11 @@ impl<R: Files + Drop> HostDisk<R> {
         let Some(file) = self.counted(found)? else {
             return Ok(None);
         };
-        Ok(Some(Opened { name, file, writes: false }))
+        Ok(Some(Opened {
+            name,
+            file,
+            writes: false,
+        }))
     }
 
     // The file that is there, open for writes.
@@ -167,7 +172,11 @@ impl<R: Files + Drop> HostDisk<R> {
         let name = name.copy()?;
         let found = open_to_write(&self.host, path.as_str());
         let file = self.counted(found)?;
-        Ok(Opened { name, file, writes: true })
+        Ok(Opened {
+            name,
+            file,
+            writes: true,
+        })
     }
 
     // A copy of the name, and room to remember it, so that no memory is wanted after a failure.
@@ -183,7 +192,9 @@ impl<R: Files + Drop> HostDisk<R> {
     }
 
     // Whether a write, a cut or a sync of the file of this name failed.
-    fn has_lost(&self, name: &Name) -> bool {
+    fn has_lost(&self, name: &Name) -> bool
+        ensures { result ≡ has_lost self.now name.now }
+    {
         self.lost.iter().any(|lost| lost.as_str() == name.as_str())
     }
 
@@ -191,13 +202,28 @@ impl<R: Files + Drop> HostDisk<R> {
     fn remembered(&mut self, name: Name, answer: Result<(), DiskError>) -> Result<(), DiskError>
         requires room { vec_len self.old.lost < vec_capacity self.old.lost }
         ensures answer { result ≡ answer }
+        ensures lost { IsErrOf result DiskError.Failed → IsTrue (has_lost self.new name) }
+        ensures stays { KeepsLost self.old self.new }
         ensures folder { host_disk_folder self.new ≡ host_disk_folder self.old }
         ensures faults { host_disk_faults self.new ≡ host_disk_faults self.old }
     {
-        if answer == Err(DiskError::Failed) && !self.has_lost(&name) {
-            self.lost.push_reserved(name);
+        if let Err(DiskError::Failed) = &answer {
+            self.remember(name);
         }
         answer
+    }
+
+    // Remembers that the file of this name may have lost bytes.
+    fn remember(&mut self, name: Name)
+        requires room { vec_len self.old.lost < vec_capacity self.old.lost }
+        ensures lost { IsTrue (has_lost self.new name) }
+        ensures stays { KeepsLost self.old self.new }
+        ensures folder { host_disk_folder self.new ≡ host_disk_folder self.old }
+        ensures faults { host_disk_faults self.new ≡ host_disk_faults self.old }
+    {
+        if !self.has_lost(&name) {
+            self.lost.push_reserved(name);
+        }
     }
 
     // Writes at a place of the file.
@@ -227,6 +253,7 @@ impl<R: Files + Drop> HostDisk<R> {
 
     // Syncs the file, where no write, cut or sync of it failed before.
     fn sync_in(&mut self, name: &Name) -> Result<(), DiskError>
+        ensures never { IsTrue (has_lost self.old name.now) → IsErr result }
         ensures lost { self.new.lost ≡ self.old.lost }
         ensures cause { HasCause DiskError.Failed (host_disk_faults self.old) (host_disk_faults self.new) result }
     {
@@ -322,7 +349,7 @@ impl<R: Files + Drop> Disk for HostDisk<R> {
         self.opened = None;
         let spare = self.spare(to)?;
         if self.has_lost(from) {
-            self.lost.push_reserved(spare);
+            self.remember(spare);
         }
         let old_path = self.reach(from)?;
         let new_path = self.reach(to)?;

@@ -2,11 +2,10 @@
 ghost use Rattle.std.specs.Prelude.{◌≡◌, ◌≤◌, ◌<◌, ◌+◌, ◌^◌, length, IfOk, OnOk};
 
 use crate::name::Name;
-use std::fmt;
 use std::fmt::{Debug, Formatter};
 use std::fs::{Metadata, OpenFile};
-use std::io;
 use std::io::{ErrorKind, Read, Seek, SeekFrom, Write};
+use std::{fmt, io};
 
 // The greatest length of a file on a disk: that of a vector of bytes. A longer one is a fault.
 const MAX_FILE_BYTES: u64 = 0x7fff_ffff_ffff_ffff;
