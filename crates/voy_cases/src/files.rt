@@ -6,6 +6,9 @@ use std::alloc::Global;
 use voy_disk::{DiskError, FaultPlan, MemDisk, Name};
 use voy_files::{ByteReader, Found, LineReader, read_file};
 
+/// The most bytes of a line of a range.
+const RANGE_LIMIT: usize = 1_000_000;
+
 /// Whether the rows are the name of a file, which then has this text, and a copy of it too.
 pub fn name(alloc: Global, case: &Case) -> Result<String, Trouble> {
     let bytes = case.bytes(alloc)?;
@@ -78,6 +81,50 @@ fn push_lines(
         }
     }
     Ok(Ok(()))
+}
+
+/// The lines between two offsets of the rows' bytes, each behind its offset: `range NAME FROM TO`.
+pub fn range(alloc: Global, case: &Case) -> Result<String, Trouble> {
+    let (start, end) = first_word(case.words);
+    let (mut disk, name) = disk_of(alloc, case, "")?;
+    let mut reader = LineReader::between(
+        alloc,
+        name,
+        number_of(start)?,
+        number_of(end)?,
+        RANGE_LIMIT,
+    );
+    let mut shown = String::new(alloc);
+    for _ in 0..u64::MAX {
+        let offset = format!(in alloc; "{} ", reader.offset())?;
+        shown.push_str(offset.as_str())?;
+        if !push_found(alloc, &mut disk, &mut reader, &mut shown)? {
+            return Ok(shown);
+        }
+    }
+    Ok(shown)
+}
+
+/// Appends what the reader finds next; false where that is no line.
+fn push_found(
+    alloc: Global,
+    disk: &mut MemDisk,
+    reader: &mut LineReader,
+    to: &mut String,
+) -> Result<bool, Trouble> {
+    let end = match reader.next(disk) {
+        Ok(Found::Line) => {
+            let line = quoted_bytes(alloc, reader.line())?;
+            to.push_str(line.as_str())?;
+            to.push_str(if reader.has_line_feed() { " LF, " } else { ", " })?;
+            return Ok(true);
+        }
+        Ok(Found::TooLong) => "too long",
+        Ok(Found::End) => "end",
+        Err(error) => error_text(error),
+    };
+    to.push_str(end)?;
+    Ok(false)
 }
 
 /// The whole file: `file NAME [FAILING CALL]`.

@@ -79,6 +79,7 @@ fn came_to(alloc: Global, case: &Case) -> Result<String, Trouble> {
         "txn" => txns::txn(alloc, case),
         "name" => files::name(alloc, case),
         "lines" => files::lines(alloc, case),
+        "range" => files::range(alloc, case),
         "file" => files::file(alloc, case),
         "bytes" => files::bytes(alloc, case),
         "disk" => disks::disk(alloc, case),

@@ -17,7 +17,7 @@ bytes_between start end bytes = drop start (take end bytes)
 
 -- bytes of a file that were not taken yet
 abbrev pub unread : ByteReader → List ℕ → List ℕ
-unread reader bytes = held reader ++ bytes_between reader.at reader.end bytes
+unread reader bytes = held reader ++ drop reader.at (take reader.end bytes)
 
 -- the next byte to be taken is the one at this offset of the file
 abbrev pub StandsAt : ByteReader → ℕ → Type 0

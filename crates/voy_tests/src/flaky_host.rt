@@ -9,6 +9,7 @@ use std::rt::Files;
 #[derive(Drop)]
 pub struct Notes {
     pub syncs: Cell<u64>,
+    pub opens: Cell<u64>,
     pub fails: Cell<bool>,
 }
 
@@ -16,6 +17,7 @@ impl Notes {
     pub fn new() -> Notes {
         Notes {
             syncs: Cell::new(0),
+            opens: Cell::new(0),
             fails: Cell::new(false),
         }
     }
@@ -30,9 +32,13 @@ impl Notes {
     fn note_sync(&self) {
         self.syncs.set(self.syncs.get().saturating_add(1));
     }
+
+    fn note_opening(&self) {
+        self.opens.set(self.opens.get().saturating_add(1));
+    }
 }
 
-/// A host that counts its syncs, and whose reads, writes, cuts and syncs fail while its notes say so.
+/// A host that counts its openings and syncs, and whose reads, writes, cuts and syncs fail while its notes say so.
 #[derive(Drop)]
 pub struct FlakyHost<'a, R> {
     pub host: R,
@@ -96,6 +102,7 @@ impl<'a, R: Files> Files for FlakyHost<'a, R> {
     type Dir = R::Dir;
 
     fn open_file(&self, how: &OpenOptions, path: &str) -> io::Result<FlakyFile<'a, R::File>> {
+        self.notes.note_opening();
         let file = self.host.open_file(how, path)?;
         let notes = self.notes;
         Ok(FlakyFile { file, notes })

@@ -1,7 +1,7 @@
 ghost use Rattle.std.specs.Prelude.{IsTrue};
 ghost use Rattle.voy_journal.specs.Journal.{StandsOn, is_live};
 
-use crate::made::{name_of, stopping_disk};
+use crate::made::{failing_disk, name_of, stopping_disk};
 use std::alloc::{AllocGlobal, Global};
 use std::process::Abort;
 use std::test::Fail;
@@ -147,6 +147,27 @@ fn try_stop(
     Ok(())
 }
 
+/// One append of which this call alone fails, an opening of the same disk, and one more append: at most so many
+/// payloads stood before.
+fn try_fault(
+    rt: &(impl Abort + AllocGlobal),
+    call: u64,
+    leaves: u64,
+    most: usize,
+) -> Result<(), Fail> {
+    let alloc = rt.alloc();
+    let mut disk = failing_disk(alloc, OPENING_CALLS.saturating_add(call), leaves)?;
+    let mut opened = Journal::open(alloc, &mut disk, name_of(alloc, NAME)?)?;
+    let appended = opened.journal.append(&mut disk, &[1, 1]);
+    let stood = append_new(alloc, &mut disk)?;
+    let stand = payloads_on(alloc, &mut disk)?;
+    assert!(rt;
+        appended.is_err() && stood.len() <= most && goes_on(0, &stood, stand.as_slice()),
+        "call {call} failed, and left {leaves}"
+    );
+    Ok(())
+}
+
 #[test]
 fn an_append_is_an_open_gate_a_length_the_payload_and_a_closed_gate(
     rt: HostRuntime,
@@ -206,6 +227,18 @@ fn a_fault_is_handed_on_and_ends_the_journal(rt: HostRuntime) -> Result<(), Fail
     }
     for call in 1..=APPEND_CALLS {
         try_fault_at_append(&rt, call)?;
+    }
+    Ok(())
+}
+
+#[test]
+fn a_journal_opens_again_on_the_disk_where_one_call_of_an_append_failed(
+    rt: HostRuntime,
+) -> Result<(), Fail> {
+    for (call, most) in [(1, 0), (2, 0), (3, 1), (4, 1)] {
+        for leaves in 0..10 {
+            try_fault(&rt, call, leaves, most)?;
+        }
     }
     Ok(())
 }

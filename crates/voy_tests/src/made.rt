@@ -29,6 +29,18 @@ pub(crate) fn stopping_disk(alloc: Global, call: u64, leaves: u64) -> MemDisk {
     MemDisk::new(alloc, plan)
 }
 
+/// A disk of which just this call fails, and leaves what `leaves` picks.
+pub(crate) fn failing_disk(alloc: Global, call: u64, leaves: u64) -> Result<MemDisk, Fail> {
+    let mut calls = Vec::new(alloc);
+    calls.push(call)?;
+    let plan = FaultPlan {
+        fail: Numbers::from_vec(calls),
+        dead_from: 0,
+        leaves,
+    };
+    Ok(MemDisk::new(alloc, plan))
+}
+
 /// A disk with this file alone.
 pub(crate) fn disk_with(alloc: Global, name: &str, bytes: &[u8]) -> Result<SureDisk, Fail> {
     let mut disk = SureDisk::new(alloc);

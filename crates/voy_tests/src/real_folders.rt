@@ -1,7 +1,8 @@
 //! Calls of a disk over a real folder, as lines of text (`disk_calls`). Between them stand calls of the host:
 //! `make` makes the folder, `put TEXT NAME` writes a file, `folder NAME` and `link NAME` make a folder and a link
 //! to the file `absent`, `remove NAME` removes a file, `bytes NAME` shows a file, and `kind` says what the folder is.
-//! Of a host that counts and fails, `syncs` is how often it was asked for a sync, and from `fail` on its calls fail.
+//! Of a host that counts and fails, `syncs` and `opens` are how often it was asked for a sync and to open a file, from
+//! `fail` on its calls fail, and from `mend` on they do not.
 
 use crate::disk_calls::{answer, call_of, push_line, quoted};
 use crate::flaky_host::{FlakyHost, Notes};
@@ -231,6 +232,75 @@ fn each_failure_of_the_host_is_a_fault(rt: HostRuntime) -> Result<(), Fail> {
     Ok(())
 }
 
+/// Calls of an append and of another file, and how often a file was opened so far.
+const OPENED: &str = "\
+make = ok
+put 0 log = ok
+put 0123456789 other = ok
+len log = 1
+opens = 1
+read log 0 = '0'
+opens = 1
+write log 1 abc = ok
+opens = 2
+sync log = ok
+write log 0 1 = ok
+sync log = ok
+len log = 4
+read log 0 = '1abc'
+opens = 2
+read other 0 = '0123'
+opens = 3
+write log 0 0 = ok
+opens = 4
+bytes log = '0abc'
+";
+
+#[test]
+fn the_file_of_the_last_call_stays_open(rt: HostRuntime) -> Result<(), Fail> {
+    let found = over_flaky_folder(rt, "voy_disk_opens", OPENED)?;
+    assert_eq!(rt; found.as_str(), OPENED);
+    Ok(())
+}
+
+/// A write, a cut and a sync that fail, each of a file of its own, and syncs once the host works again.
+const LOST: &str = "\
+make = ok
+put 0123456789 written = ok
+put 0123456789 shortened = ok
+put 0123456789 synced = ok
+put 0123456789 sound = ok
+fail = ok
+write written 0 x = failed
+cut shortened 2 = failed
+sync synced = failed
+mend = ok
+faults = 3
+sync written = failed
+sync shortened = failed
+sync synced = failed
+faults = 6
+sync sound = ok
+write written 0 y = ok
+cut synced 3 = ok
+sync written = failed
+sync written = failed
+sync synced = failed
+rename synced renamed = ok
+sync renamed = failed
+sync sound = ok
+faults = 10
+bytes written = 'y123456789'
+bytes renamed = '012'
+";
+
+#[test]
+fn a_file_that_may_have_lost_bytes_syncs_no_more(rt: HostRuntime) -> Result<(), Fail> {
+    let found = over_flaky_folder(rt, "voy_disk_loses", LOST)?;
+    assert_eq!(rt; found.as_str(), LOST);
+    Ok(())
+}
+
 /// The lines with the answers of a disk over the folder `at`, which is this folder or one in it.
 fn over_folder(rt: HostRuntime, folder: &str, at: &str, lines: &str) -> Result<String, Fail> {
     let _ = fs::remove_dir_all(&rt, folder);
@@ -267,12 +337,13 @@ fn over_flaky_folder(rt: HostRuntime, folder: &str, lines: &str) -> Result<Strin
     Ok(found)
 }
 
-/// The answer to `syncs` or `fail`.
+/// The answer to `syncs`, `opens`, `fail` or `mend`.
 fn noted(rt: HostRuntime, notes: &Notes, call: &str) -> Result<Option<String>, Fail> {
     match call {
         "syncs" => Ok(Some(format!(in rt.alloc(); "{}", notes.syncs.get())?)),
-        "fail" => {
-            notes.fails.set(true);
+        "opens" => Ok(Some(format!(in rt.alloc(); "{}", notes.opens.get())?)),
+        "fail" | "mend" => {
+            notes.fails.set(call == "fail");
             Ok(Some(String::from_str(rt.alloc(), "ok")?))
         }
         _ => Ok(None),

@@ -1,11 +1,12 @@
-ghost use Rattle.std.specs.Prelude.{◌≡◌, ◌≤◌, [], None, Ok, Err, IfOk, IfErr, string_bytes};
+ghost use Rattle.std.specs.Prelude.{◌≡◌, ◌≤◌, ◌<◌, ◌+◌, ◌^◌, [], None, Ok, Err, IfOk, IfErr, IsErr, IsErrOf, IsTrue, OnOk, length, string_bytes, vec_capacity, vec_len};
 ghost use Rattle.voy_disk.specs.Faults.{HasCause, Rose};
 
 use crate::disk::{Disk, DiskError};
 use crate::host::files::{
-    create_file, cut_file, find_or_make_folder, length_in, list_files, path_in, read_file,
-    rename_file, sync_file, sync_folder, write_file,
+    create_file, find_or_make_folder, list_files, open_to_read, open_to_write, path_in,
+    rename_file, sync_folder,
 };
+use crate::host::opened::Opened;
 use crate::name::Name;
 use crate::names::Names;
 use std::alloc::{AllocError, Global};
@@ -19,21 +20,30 @@ use std::rt::Files;
 /// The folder is made by the first call where it is absent. A file that is no plain file, as a
 /// folder, or that cannot be read, is a fault; `list` passes over what is no plain file or has no
 /// `Name`. A write behind the end, a write past 2^63 - 1 bytes, a cut that would lengthen, and a new
-/// name that is taken are faults too. Each read, write and sync goes to the folder itself. `create`
-/// and `rename` sync the folder, and the first of them also the folder above, so that the folder's
-/// own name is safe. The count of faults stays at the end of its type.
+/// name that is taken are faults too. Each read, write and sync goes to the file itself, which stays
+/// open for the next call where that is of the same file. `create` and `rename` sync the folder, and
+/// the first of them also the folder above, so that the folder's own name is safe. The count of faults
+/// stays at the end of its type.
+///
+/// After a write, a cut or a sync of a file failed, each later sync of that name is a fault, for as long
+/// as the disk lives: the system may have dropped what it could not write, and would then answer the next
+/// sync as if all were safe. A file that is renamed takes this along.
 #[derive(Debug, Drop)]
-pub struct HostDisk<R> {
+pub struct HostDisk<R: Files> {
     host: R,
     alloc: Global,
     folder: String,
     has_folder: bool,
     is_folder_safe: bool,
     faults: u64,
+    // The file of the last call.
+    opened: Option<Opened<R::File>>,
+    // The names of the files of which a write, a cut or a sync failed.
+    lost: Vec<Name>,
 }
 
 impl<R: Files + Drop> HostDisk<R> {
-    ghost use Rattle.voy_disk.specs.HostDisk.{host_disk_folder, host_disk_faults, host_disk_path};
+    ghost use Rattle.voy_disk.specs.HostDisk.{KeepsLost, has_lost, host_disk_folder, host_disk_faults, host_disk_path};
 
     /// The folder with this path. Nothing is read or made yet.
     pub fn new(host: R, alloc: Global, folder: &str) -> Result<HostDisk<R>, AllocError>
@@ -47,6 +57,8 @@ impl<R: Files + Drop> HostDisk<R> {
             has_folder: false,
             is_folder_safe: false,
             faults: 0,
+            opened: None,
+            lost: Vec::new(alloc),
         })
     }
 
@@ -61,6 +73,7 @@ impl<R: Files + Drop> HostDisk<R> {
     fn reach(&mut self, name: &Name) -> Result<String, DiskError>
         ensures path { IfOk result (λ path. string_bytes path ≡ host_disk_path self.old name.now) }
         ensures folder { host_disk_folder self.new ≡ host_disk_folder self.old }
+        ensures lost { self.new.lost ≡ self.old.lost }
         ensures cause { HasCause DiskError.Failed (host_disk_faults self.old) (host_disk_faults self.new) result }
     {
         let path = path_in(self.alloc, self.folder.as_str(), name.as_str())?;
@@ -71,6 +84,7 @@ impl<R: Files + Drop> HostDisk<R> {
     // Makes the folder where it is absent.
     fn reach_folder(&mut self) -> Result<(), DiskError>
         ensures folder { host_disk_folder self.new ≡ host_disk_folder self.old }
+        ensures lost { self.new.lost ≡ self.old.lost }
         ensures cause { HasCause DiskError.Failed (host_disk_faults self.old) (host_disk_faults self.new) result }
     {
         if !self.has_folder {
@@ -84,6 +98,7 @@ impl<R: Files + Drop> HostDisk<R> {
     // Makes the folder's own name safe in the folder above, before the first name in it has to be.
     fn keep_folder(&mut self) -> Result<(), DiskError>
         ensures folder { host_disk_folder self.new ≡ host_disk_folder self.old }
+        ensures lost { self.new.lost ≡ self.old.lost }
         ensures cause { HasCause DiskError.Failed (host_disk_faults self.old) (host_disk_faults self.new) result }
     {
         if !self.is_folder_safe {
@@ -100,6 +115,7 @@ impl<R: Files + Drop> HostDisk<R> {
         ensures ok { IfOk answer (λ value. result ≡ Ok value) }
         ensures err { IfErr answer (λ _. result ≡ Err DiskError.Failed) }
         ensures folder { host_disk_folder self.new ≡ host_disk_folder self.old }
+        ensures lost { self.new.lost ≡ self.old.lost }
         ensures cause { HasCause DiskError.Failed (host_disk_faults self.old) (host_disk_faults self.new) result }
     {
         match answer {
@@ -108,10 +124,154 @@ impl<R: Files + Drop> HostDisk<R> {
         }
     }
 
+    // The file of the last call, where it is the one of this name, opened for what is wanted of it.
+    fn take_opened(&mut self, name: &Name, to_write: bool) -> Option<Opened<R::File>>
+        ensures folder { host_disk_folder self.new ≡ host_disk_folder self.old }
+        ensures faults { host_disk_faults self.new ≡ host_disk_faults self.old }
+        ensures lost { self.new.lost ≡ self.old.lost }
+    {
+        let opened = self.opened.take()?;
+        if !opened.serves(name, to_write) {
+            return None;
+        }
+        Some(opened)
+    }
+
+    // The file, open for reads, or `None` where there is none.
+    fn open_to_read(&mut self, name: &Name) -> Result<Option<Opened<R::File>>, DiskError>
+        ensures lost { self.new.lost ≡ self.old.lost }
+        ensures folder { host_disk_folder self.new ≡ host_disk_folder self.old }
+        ensures cause { HasCause DiskError.Failed (host_disk_faults self.old) (host_disk_faults self.new) result }
+    {
+        if let Some(opened) = self.take_opened(name, false) {
+            return Ok(Some(opened));
+        }
+        let path = self.reach(name)?;
+        let name = name.copy()?;
+        let found = open_to_read(&self.host, path.as_str());
+        let Some(file) = self.counted(found)? else {
+            return Ok(None);
+        };
+        Ok(Some(Opened {
+            name,
+            file,
+            writes: false,
+        }))
+    }
+
+    // The file that is there, open for writes.
+    fn open_to_write(&mut self, name: &Name) -> Result<Opened<R::File>, DiskError>
+        ensures folder { host_disk_folder self.new ≡ host_disk_folder self.old }
+        ensures lost { self.new.lost ≡ self.old.lost }
+        ensures cause { HasCause DiskError.Failed (host_disk_faults self.old) (host_disk_faults self.new) result }
+    {
+        if let Some(opened) = self.take_opened(name, true) {
+            return Ok(opened);
+        }
+        let path = self.reach(name)?;
+        let name = name.copy()?;
+        let found = open_to_write(&self.host, path.as_str());
+        let file = self.counted(found)?;
+        Ok(Opened {
+            name,
+            file,
+            writes: true,
+        })
+    }
+
+    // A copy of the name, and room to remember it, so that no memory is wanted after a failure.
+    fn spare(&mut self, name: &Name) -> Result<Name, AllocError>
+        ensures name { IfOk result (λ spare. spare ≡ name.now) }
+        ensures room { OnOk result (vec_len self.new.lost < vec_capacity self.new.lost) }
+        ensures lost { self.new.lost.items ≡ self.old.lost.items }
+        ensures folder { host_disk_folder self.new ≡ host_disk_folder self.old }
+        ensures faults { host_disk_faults self.new ≡ host_disk_faults self.old }
+    {
+        self.lost.reserve(1)?;
+        name.copy()
+    }
+
+    // Whether a write, a cut or a sync of the file of this name failed.
+    fn has_lost(&self, name: &Name) -> bool
+        ensures { result ≡ has_lost self.now name.now }
+    {
+        self.lost.iter().any(|lost| lost.as_str() == name.as_str())
+    }
+
+    // The answer of a call that was to write to the file of this name, which is remembered where it failed.
+    fn remembered(&mut self, name: Name, answer: Result<(), DiskError>) -> Result<(), DiskError>
+        requires room { vec_len self.old.lost < vec_capacity self.old.lost }
+        ensures answer { result ≡ answer }
+        ensures lost { IsErrOf result DiskError.Failed → IsTrue (has_lost self.new name) }
+        ensures stays { KeepsLost self.old self.new }
+        ensures folder { host_disk_folder self.new ≡ host_disk_folder self.old }
+        ensures faults { host_disk_faults self.new ≡ host_disk_faults self.old }
+    {
+        if let Err(DiskError::Failed) = &answer {
+            self.remember(name);
+        }
+        answer
+    }
+
+    // Remembers that the file of this name may have lost bytes.
+    fn remember(&mut self, name: Name)
+        requires room { vec_len self.old.lost < vec_capacity self.old.lost }
+        ensures lost { IsTrue (has_lost self.new name) }
+        ensures stays { KeepsLost self.old self.new }
+        ensures folder { host_disk_folder self.new ≡ host_disk_folder self.old }
+        ensures faults { host_disk_faults self.new ≡ host_disk_faults self.old }
+    {
+        if !self.has_lost(&name) {
+            self.lost.push_reserved(name);
+        }
+    }
+
+    // Writes at a place of the file.
+    fn write_in(&mut self, name: &Name, at: u64, bytes: &[u8]) -> Result<(), DiskError>
+        ensures fits { OnOk result (at + length bytes.now < 2 ^ 63) }
+        ensures lost { self.new.lost ≡ self.old.lost }
+        ensures cause { HasCause DiskError.Failed (host_disk_faults self.old) (host_disk_faults self.new) result }
+    {
+        let mut opened = self.open_to_write(name)?;
+        let written = opened.write_at(at, bytes);
+        self.counted(written)?;
+        self.opened = Some(opened);
+        Ok(())
+    }
+
+    // Cuts the file.
+    fn cut_in(&mut self, name: &Name, to: u64) -> Result<(), DiskError>
+        ensures lost { self.new.lost ≡ self.old.lost }
+        ensures cause { HasCause DiskError.Failed (host_disk_faults self.old) (host_disk_faults self.new) result }
+    {
+        let mut opened = self.open_to_write(name)?;
+        let shortened = opened.cut(to);
+        self.counted(shortened)?;
+        self.opened = Some(opened);
+        Ok(())
+    }
+
+    // Syncs the file, where no write, cut or sync of it failed before.
+    fn sync_in(&mut self, name: &Name) -> Result<(), DiskError>
+        ensures never { IsTrue (has_lost self.old name.now) → IsErr result }
+        ensures lost { self.new.lost ≡ self.old.lost }
+        ensures cause { HasCause DiskError.Failed (host_disk_faults self.old) (host_disk_faults self.new) result }
+    {
+        if self.has_lost(name) {
+            return Err(self.fail());
+        }
+        let mut opened = self.open_to_write(name)?;
+        let synced = opened.sync();
+        self.counted(synced)?;
+        self.opened = Some(opened);
+        Ok(())
+    }
+
     // Counts a fault.
     fn fail(&mut self) -> DiskError
         ensures error { result ≡ DiskError.Failed }
         ensures folder { host_disk_folder self.new ≡ host_disk_folder self.old }
+        ensures lost { self.new.lost ≡ self.old.lost }
         ensures later { host_disk_faults self.old ≤ host_disk_faults self.new }
         ensures rose { Rose (host_disk_faults self.old) (host_disk_faults self.new) }
     {
@@ -141,18 +301,27 @@ impl<R: Files + Drop> Disk for HostDisk<R> {
     }
 
     fn len(&mut self, name: &Name) -> Result<Option<u64>, DiskError> {
-        let path = self.reach(name)?;
-        let length = length_in(&self.host, path.as_str());
-        self.counted(length)
+        let Some(opened) = self.open_to_read(name)? else {
+            return Ok(None);
+        };
+        let length = opened.length();
+        let length = self.counted(length)?;
+        self.opened = Some(opened);
+        Ok(Some(length))
     }
 
     fn read_at(&mut self, name: &Name, at: u64, into: &mut [u8]) -> Result<usize, DiskError> {
-        let path = self.reach(name)?;
-        let read = read_file(&self.host, path.as_str(), at, into);
-        self.counted(read)
+        let Some(mut opened) = self.open_to_read(name)? else {
+            return Ok(0);
+        };
+        let read = opened.read_at(at, into);
+        let count = self.counted(read)?;
+        self.opened = Some(opened);
+        Ok(count)
     }
 
     fn create(&mut self, name: &Name) -> Result<(), DiskError> {
+        self.opened = None;
         let path = self.reach(name)?;
         self.keep_folder()?;
         let created = create_file(&self.host, self.folder.as_str(), path.as_str());
@@ -160,24 +329,29 @@ impl<R: Files + Drop> Disk for HostDisk<R> {
     }
 
     fn write_at(&mut self, name: &Name, at: u64, bytes: &[u8]) -> Result<(), DiskError> {
-        let path = self.reach(name)?;
-        let written = write_file(&self.host, path.as_str(), at, bytes);
-        self.counted(written)
+        let spare = self.spare(name)?;
+        let written = self.write_in(name, at, bytes);
+        self.remembered(spare, written)
     }
 
     fn cut(&mut self, name: &Name, to: u64) -> Result<(), DiskError> {
-        let path = self.reach(name)?;
-        let shortened = cut_file(&self.host, path.as_str(), to);
-        self.counted(shortened)
+        let spare = self.spare(name)?;
+        let shortened = self.cut_in(name, to);
+        self.remembered(spare, shortened)
     }
 
     fn sync(&mut self, name: &Name) -> Result<(), DiskError> {
-        let path = self.reach(name)?;
-        let synced = sync_file(&self.host, path.as_str());
-        self.counted(synced)
+        let spare = self.spare(name)?;
+        let synced = self.sync_in(name);
+        self.remembered(spare, synced)
     }
 
     fn rename(&mut self, from: &Name, to: &Name) -> Result<(), DiskError> {
+        self.opened = None;
+        let spare = self.spare(to)?;
+        if self.has_lost(from) {
+            self.remember(spare);
+        }
         let old_path = self.reach(from)?;
         let new_path = self.reach(to)?;
         self.keep_folder()?;

@@ -1,16 +1,14 @@
 // What a real folder is asked for, by the paths of its files.
-ghost use Rattle.std.specs.Prelude.{◌≡◌, ◌≤◌, ◌<◌, ◌+◌, ◌^◌, ◌++◌, ◌∷◌, length, IfOk, IfSome, OnOk, string_bytes};
+ghost use Rattle.std.specs.Prelude.{◌≡◌, ◌++◌, ◌∷◌, IfOk, string_bytes};
 
+use crate::host::opened::plain_length;
 use crate::name::Name;
 use crate::names::Names;
 use std::alloc::{AllocError, Global};
 use std::fs::{Metadata, OpenFile, OpenOptions};
-use std::io::{ErrorKind, Read, Seek, SeekFrom, Write};
+use std::io::ErrorKind;
 use std::rt::Files;
 use std::{fs, io};
-
-// The greatest length of a file on a disk: that of a vector of bytes. A longer one is a fault.
-const MAX_FILE_BYTES: u64 = 0x7fff_ffff_ffff_ffff;
 
 // The path of what has this name in a folder.
 pub(crate) fn path_in(alloc: Global, folder: &str, name: &str) -> Result<String, AllocError>
@@ -86,35 +84,6 @@ fn name_of_file<R: Files>(
     Ok(Some(name))
 }
 
-// The length in bytes of a plain file that can be read, or `None` where nothing has this path.
-pub(crate) fn length_in<R: Files>(host: &R, path: &str) -> io::Result<Option<u64>>
-    ensures { IfOk result (λ found. IfSome found (λ bytes. bytes < 2 ^ 63)) }
-{
-    let Some(opened) = open_to_read(host, path)? else {
-        return Ok(None);
-    };
-    Ok(Some(opened.bytes))
-}
-
-// Reads from a place of a file, or nothing where the file is absent or ends before that place.
-pub(crate) fn read_file<R: Files>(
-    host: &R,
-    path: &str,
-    at: u64,
-    into: &mut [u8],
-) -> io::Result<usize>
-    ensures { IfOk result (λ count. count ≤ length into.old) }
-{
-    let Some(mut opened) = open_to_read(host, path)? else {
-        return Ok(0);
-    };
-    if at >= opened.bytes || into.is_empty() {
-        return Ok(0);
-    }
-    opened.file.seek(SeekFrom::Start(at))?;
-    opened.file.read(into)
-}
-
 // Makes an empty file where there is none, and its name safe in either case.
 pub(crate) fn create_file<R: Files>(host: &R, folder: &str, path: &str) -> io::Result<()> {
     if !is_plain_file(host, path)? {
@@ -124,32 +93,6 @@ pub(crate) fn create_file<R: Files>(host: &R, folder: &str, path: &str) -> io::R
             .open(host, path)?;
     }
     sync_folder(host, folder)
-}
-
-// Writes all bytes at a place that is not behind the end, where the file stays short enough.
-pub(crate) fn write_file<R: Files>(host: &R, path: &str, at: u64, bytes: &[u8]) -> io::Result<()>
-    ensures fits { OnOk result (at + length bytes.now < 2 ^ 63) }
-{
-    let mut opened = open_to_write(host, path)?;
-    if at > opened.bytes || bytes.len() as u64 > MAX_FILE_BYTES - at {
-        return Err(io::Error::from(ErrorKind::InvalidInput));
-    }
-    opened.file.seek(SeekFrom::Start(at))?;
-    opened.file.write_all(bytes)
-}
-
-// Cuts a file that is not shorter.
-pub(crate) fn cut_file<R: Files>(host: &R, path: &str, to: u64) -> io::Result<()> {
-    let opened = open_to_write(host, path)?;
-    if to > opened.bytes {
-        return Err(io::Error::from(ErrorKind::InvalidInput));
-    }
-    opened.file.set_len(to)
-}
-
-// Makes the bytes of a file safe.
-pub(crate) fn sync_file<R: Files>(host: &R, path: &str) -> io::Result<()> {
-    open_to_write(host, path)?.file.sync_all()
 }
 
 // Gives a file a path that nothing has, and makes both names safe.
@@ -171,42 +114,19 @@ pub(crate) fn rename_file<R: Files>(
     sync_folder(host, folder)
 }
 
-// A plain file that is open, and its length in bytes.
-#[derive(Drop)]
-struct Opened<F> {
-    file: F,
-    bytes: u64,
-}
-
-// Opens a plain file, or answers `None` where nothing has this path.
-fn open_to_read<R: Files>(host: &R, path: &str) -> io::Result<Option<Opened<R::File>>>
-    ensures { IfOk result (λ found. IfSome found (λ opened. opened.bytes < 2 ^ 63)) }
-{
+// Opens a plain file for reads, or answers `None` where nothing has this path.
+pub(crate) fn open_to_read<R: Files>(host: &R, path: &str) -> io::Result<Option<R::File>> {
     let Some(about) = find(host, path)? else {
         return Ok(None);
     };
-    let bytes = plain_length(&about)?;
-    let file = fs::open(host, path)?;
-    Ok(Some(Opened { file, bytes }))
+    plain_length(&about)?;
+    Ok(Some(fs::open(host, path)?))
 }
 
-// Opens a plain file that is there.
-fn open_to_write<R: Files>(host: &R, path: &str) -> io::Result<Opened<R::File>>
-    ensures { IfOk result (λ opened. opened.bytes < 2 ^ 63) }
-{
-    let bytes = plain_length(&host.metadata(path)?)?;
-    let file = OpenOptions::new().write(true).open(host, path)?;
-    Ok(Opened { file, bytes })
-}
-
-fn plain_length(about: &Metadata) -> io::Result<u64>
-    ensures { IfOk result (λ bytes. bytes < 2 ^ 63) }
-{
-    let bytes = about.len();
-    if !about.is_file() || bytes > MAX_FILE_BYTES {
-        return Err(io::Error::from(ErrorKind::InvalidInput));
-    }
-    Ok(bytes)
+// Opens a plain file that is there, for reads and writes.
+pub(crate) fn open_to_write<R: Files>(host: &R, path: &str) -> io::Result<R::File> {
+    plain_length(&host.metadata(path)?)?;
+    OpenOptions::new().read(true).write(true).open(host, path)
 }
 
 fn is_plain_file<R: Files>(host: &R, path: &str) -> io::Result<bool> {

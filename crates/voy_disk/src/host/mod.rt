@@ -2,6 +2,7 @@
 
 mod disk;
 mod files;
+mod opened;
 mod sink;
 
 pub use disk::HostDisk;
