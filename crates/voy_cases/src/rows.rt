@@ -5,8 +5,8 @@ use crate::trouble::Trouble;
 use crate::values::{push_rows, row_of, rows_of, text_at};
 use std::alloc::Global;
 use voy_report::table_text;
-use voy_schema::{Bytes, Row, Rows, Same, Schema, Table, Text, Value};
-use voy_tables::{RowError, RowWhy, read_recorded, read_rows, row_text_is_too_long, write_row};
+use voy_schema::{Bytes, Row, Rows, Schema, Table, Text, Value};
+use voy_tables::{RowError, read_recorded, read_rows, row_text_is_too_long, write_row};
 
 /// The rows of the schema's first table that a text without a header states.
 pub fn rows(alloc: Global, case: &Case) -> Result<String, Trouble> {
@@ -56,17 +56,6 @@ fn counted(alloc: Global, count: usize) -> Result<String, Trouble> {
         _ => format!(in alloc; "{count} rows ")?,
     };
     Ok(shown)
-}
-
-fn why_text(why: RowWhy) -> &'static str {
-    match why {
-        RowWhy::Fields => "wrong number of fields",
-        RowWhy::Utf8 => "not utf-8",
-        RowWhy::Header => "bad header",
-        RowWhy::BadValue => "bad value",
-        RowWhy::NullKey => "null key",
-        RowWhy::TooLong => "too long",
-    }
 }
 
 /// The row that the case's pieces write as a JSON list.
@@ -137,7 +126,7 @@ pub fn made(alloc: Global, case: &Case) -> Result<String, Trouble> {
     let Ok(back) = read_rows(alloc, first_table(&schema)?, text.as_slice()) else {
         return Err(Trouble::Apart("made rows do not read"));
     };
-    let answer = if back.same(&rows) {
+    let answer = if back == rows {
         "the same rows"
     } else {
         "other rows"

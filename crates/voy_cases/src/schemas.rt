@@ -5,7 +5,7 @@ use crate::values::{push_answer, row_of, rows_of, text_at, value_of};
 use std::alloc::Global;
 use std::cmp::Ordering;
 use voy_schema::{
-    Copies, Kind, Row, Same, Schema, SchemaError, Table, Text, Tuple, Value, check_value,
+    Copies, Kind, Row, Schema, SchemaError, Table, Text, Tuple, Value, check_value,
     is_lawful_row, is_lawful_value,
 };
 
@@ -106,6 +106,9 @@ fn push_table(table: &Table, to: &mut String) -> Result<(), Trouble> {
     push_columns(table, table.primary_key.as_slice(), to)?;
     for key in table.unique_keys.as_slice() {
         to.push_str("; unique")?;
+        if key.nulls_not_distinct {
+            to.push_str(" with NULLs equal:")?;
+        }
         push_columns(table, key.columns.as_slice(), to)?;
     }
     to.push(')')?;
@@ -210,7 +213,7 @@ pub fn text(alloc: Global, case: &Case) -> Result<String, Trouble> {
 /// The text, once a copy of it was found to be the same.
 fn kept(alloc: Global, text: &Text) -> Result<String, Trouble> {
     let copied = text.copy()?;
-    if !copied.same(text) {
+    if copied != *text {
         return Err(Trouble::Apart("a copied text is another"));
     }
     quoted(alloc, text.as_str())

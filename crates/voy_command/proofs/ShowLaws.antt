@@ -1,11 +1,10 @@
 -- What the parts of `show` make of its answer, and that it can print one text alone.
 use Rattle.std.proofs.Common.{◌≡◌, ℕ, ◌⊎◌, inl, inr, List, Option, Some, None, Ok, Err, refl, sym, ap, ◌∙◌, subst}
-use Rattle.voy_disk.specs.Calls.{Change, untold, told}
+use Rattle.voy_disk.specs.ChangeLaws.{others_still}
 use Rattle.voy_disk.specs.Faults.{Rose}
 use Rattle.voy_disk.specs.Files.{Files, IfTold, bytes_now}
 use Rattle.voy_disk.specs.Written.{GotFront, grown}
 use Rattle.voy_journal.specs.Grammar.{DamagedAt, HasPayloads, payloads_of}
-use Rattle.voy_journal.specs.Journal.{KeepsOtherFiles}
 use Rattle.voy_report.specs.Show.{tables_text}
 use Rattle.voy_schema.specs.declared.table.Table.{Table}
 use Rattle.voy_store.specs.Stored.{IsStoreDamaged, history_in, store_name}
@@ -86,13 +85,9 @@ opening_stops side given schema store before refused after opening.NoMemory same
 pub keeps_store : (files : Option Files) → KeepsStore files files
 keeps_store files = record {
   images = record { from = λ j now. record { before = j; was = now; by = record { payloads = refl; others = λ other not. refl } } };
-  others = unchanged files;
+  others = others_still store_name files;
   told = record { has = λ i was. (i, was) };
 }
-  where
-    unchanged : (files : Option Files) → Change (KeepsOtherFiles store_name) files files
-    unchanged None = untold
-    unchanged (Some fs) = told (λ other not. refl)
 
 -- ---- the answer
 

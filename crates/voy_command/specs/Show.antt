@@ -7,7 +7,7 @@ use Rattle.voy_disk.specs.Images.{ImagesOf}
 use Rattle.voy_disk.specs.Steps.{Follows, StaysTold}
 use Rattle.voy_disk.specs.Written.{GotFront, grown}
 use Rattle.voy_disk.specs.declared.place.Place.{Place}
-use Rattle.voy_journal.specs.Journal.{KeepsOtherFiles, KeepsPayloads}
+use Rattle.voy_journal.specs.Journal.{KeepsPayloads}
 use Rattle.voy_report.specs.Show.{tables_text}
 use Rattle.voy_schema.specs.declared.table.Table.{Table}
 use Rattle.voy_store.specs.Stored.{IsStored, IsStoreDamaged, store_name}
@@ -22,6 +22,7 @@ use Rattle.voy_command.specs.declared.answer.Cause.{Cause}
 use Rattle.voy_command.specs.declared.answer.Which.TheVariants.{Recording}
 use Rattle.voy_tables.specs.declared.change.Side.{Side}
 use Rattle.voy_tables.specs.declared.change.Side.TheVariants.{Target, Source}
+use Rattle.voy_disk.specs.Frames.{KeepsOtherFiles}
 
 -- these bytes are the journal of a store with tables that have this text
 pub record HasStoreText (schema : List Table) (bytes text : List ℕ) : Type 0 where

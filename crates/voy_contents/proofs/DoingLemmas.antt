@@ -8,12 +8,12 @@ use Rattle.voy_schema.specs.Rows.{key_of}
 use Rattle.voy_schema.specs.declared.table.Table.{Table}
 use Rattle.voy_schema.specs.declared.value.Value.{Value}
 use Rattle.voy_contents.proofs.IndexLemmas.{get_set}
-use Rattle.voy_contents.proofs.MisfitLemmas.{misfit_by-none}
+use Rattle.voy_tables.specs.MisfitLaws.{misfit_by-none}
 use Rattle.voy_contents.proofs.PreparingLemmas.{get_push, length_push}
-use Rattle.voy_contents.proofs.RowLemmas.{same_key-decides}
+use Rattle.voy_tables.specs.SameLaws.{same_key-decides}
 use Rattle.voy_contents.proofs.UndoLemmas.{all_have, goes_below}
 use Rattle.voy_contents.specs.MemTables.{is_in_place, tuples_of}
-use Rattle.voy_contents.specs.Steps.{after_of, before_of, key_changed}
+use Rattle.voy_tables.specs.Changes.{after_of, before_of, key_changed}
 use Rattle.voy_contents.specs.TableSteps.{AllHavePlaces, AreMemTables, GoesBack, HasPlacesIn, HasStepMore, IsStepDone, IsTableStepOf, KeepsLists, StepFits, change_by, lists_of}
 use Rattle.voy_contents.specs.declared.mem_table.MemTable.{MemTable}
 use Rattle.voy_contents.specs.declared.table_step.TableStep.{TableStep}

@@ -4,7 +4,6 @@ mod TupleLemmas
 mod IndexLemmas
 mod PlaceLemmas
 mod MemTableLemmas
-mod MisfitLemmas
 mod SwapLemmas
 mod TableStepLemmas
 mod UndoLemmas

@@ -4,9 +4,8 @@ use Rattle.std.proofs.lemmas.Bool.{and_from, and_parts}
 use Rattle.std.proofs.lemmas.Map.Keys.{sorted_head, sorted_tail}
 use Rattle.std.proofs.lemmas.Map.Lookups.{CmpEqualImpliesEq, exact_bytes}
 use Rattle.std.specs.BTreeMap.{is_at}
-use Rattle.std.specs.Bool.{Decides}
 use Rattle.std.specs.Cmp.{IsTotalOrder}
-use Rattle.std.specs.Cmp.Lexicographic.{bytes_decides, lists_ties, lists_total, nat_list_cmp_total, pointwise_decides, slice_cmp, texts_ties}
+use Rattle.std.specs.Cmp.Lexicographic.{lists_ties, lists_total, nat_list_cmp_total, slice_cmp, texts_ties}
 use Rattle.std.specs.List.{AllByRecursion, cons_option}
 use Rattle.std.specs.List.Sorted.{IsStrictlySortedBy}
 use Rattle.std.specs.Map.{keys_of, lookup, set_value}
@@ -20,6 +19,7 @@ use Rattle.voy_schema.specs.declared.value.Value.{Value}
 use Rattle.voy_contents.proofs.SlotLemmas.{behind, is_equal, none_above}
 use Rattle.voy_contents.specs.MemTables.{RowSlots, are_in_place, is_in_place, row_at, rows_of, standing}
 use Rattle.voy_tables.specs.Keys.{key_cmp, same_key}
+use Rattle.voy_tables.specs.SameLaws.{same_key-decides}
 use Rattle.voy_tables.specs.Lists.{put_by, row_with_key, rows_after, with_row, without_key}
 
 -- an order that tells all items apart tells all lists of them apart
@@ -38,10 +38,6 @@ key_order = lists_total nat_list_cmp_total
 
 pub key_exact : CmpEqualImpliesEq key_cmp
 key_exact = exact_lists exact_bytes
-
-pub same_key-decides : (a b : List (List ℕ)) → Decides (same_key a b) (a ≡ b)
-unfolding same_key
-same_key-decides = pointwise_decides bytes_decides
 
 pub same_key-by_cmp : (a b : List (List ℕ)) → same_key a b ≡ is_eq (key_cmp a b)
 unfolding same_key

@@ -12,10 +12,11 @@ use Rattle.voy_schema.specs.Rows.{counting_tuple}
 use Rattle.voy_schema.specs.declared.table.Table.{Table}
 use Rattle.voy_schema.specs.declared.table.UniqueKey.{UniqueKey}
 use Rattle.voy_schema.specs.declared.value.Value.{Value}
-use Rattle.voy_contents.proofs.MisfitLemmas.{unique_misfit-free, unique_misfit-none}
+use Rattle.voy_tables.specs.MisfitLaws.{unique_misfit-free, unique_misfit-none}
 use Rattle.voy_contents.proofs.RowLemmas.{in_place-set, key_exact, key_order, row_with_key-row_at, rows_after-set}
 use Rattle.voy_contents.proofs.SlotLemmas.{is_equal, lookup_set, set_back}
-use Rattle.voy_contents.proofs.TupleLemmas.{agrees-set, apart-set, is_taken-nothing, is_taken-others, itself, others-scan, others-set, place-kept, row_at-set, same_tuple-decides, scan}
+use Rattle.voy_tables.specs.SameLaws.{same_tuple-decides}
+use Rattle.voy_contents.proofs.TupleLemmas.{agrees-set, apart-set, is_taken-nothing, is_taken-others, itself, others-scan, others-set, place-kept, row_at-set, scan}
 use Rattle.voy_contents.specs.MemTables.{Agrees, HasPlace, HavePlaces, IsMemTable, KeepsPlaces, RowSlots, TupleSlots, are_in_place, has_tuple, is_in_place, moved_at, row_at, rows_of, standing, tuples_of, with_listed}
 use Rattle.voy_contents.specs.Steps.{HasStepPlaces, IsReady, IsSwapped}
 use Rattle.voy_contents.specs.declared.step.Step.{Step}
@@ -92,7 +93,7 @@ module _ (t : Table) (step : Step) (rows : RowSlots) (indexes after : List Tuple
     sorted = sorted;
     in_place = in_place;
     apart = λ n unique at. apart-set step.key unique rows stands.sorted step.row places.row (stands.apart n unique at)
-        (λ values has. sym (is_taken-others t step.key unique values step.row rows stands.in_place ((same_tuple-decides values (counting_tuple unique step.row)).0 has)) ∙ free n unique at);
+        (λ values has. sym (is_taken-others t step.key unique values step.row rows stands.in_place (sym ((same_tuple-decides (Some values) (counting_tuple unique step.row)).0 has))) ∙ free n unique at);
     agree = agree;
     indexed = as_many ∙ stands.indexed;
   }
@@ -115,7 +116,7 @@ module _ (t : Table) (step : Step) (rows : RowSlots) (indexes after : List Tuple
         is_taken-others t step.key unique values old set_rows in_place counts
         ∙ others-set step.key unique rows stands.sorted step.row places.row values
         ∙ others-scan step.key unique rows stands.sorted (stands.apart n unique at) values
-        ∙ ap (λ b. scan unique values rows && not b) (ap (has_tuple unique values) old_at ∙ (same_tuple-decides values (counting_tuple unique old)).1 counts)
+        ∙ ap (λ b. scan unique values rows && not b) (ap (has_tuple unique values) old_at ∙ (same_tuple-decides (Some values) (counting_tuple unique old)).1 (sym counts))
         ∙ neither (scan unique values rows)
       where
         neither : (b : Bool) → (b && false) ≡ false

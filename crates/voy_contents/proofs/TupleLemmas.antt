@@ -5,16 +5,15 @@ use Rattle.std.proofs.lemmas.Map.{keys-set_value}
 use Rattle.std.proofs.lemmas.Map.Lookups.{CmpEqualImpliesEq, exact_bytes}
 use Rattle.std.proofs.lemmas.Option.{same_Some}
 use Rattle.std.specs.BTreeMap.{is_at}
-use Rattle.std.specs.Bool.{Decides}
 use Rattle.std.specs.Cmp.{IsTotalOrder, both_ways, tied_itself}
-use Rattle.std.specs.Cmp.Lexicographic.{bytes_decides, lists_total, pointwise_decides}
+use Rattle.std.specs.Cmp.Lexicographic.{lists_total}
 use Rattle.std.specs.List.{cons_option, list_any}
 use Rattle.std.specs.List.Sorted.{IsStrictlySortedBy}
 use Rattle.std.specs.Map.{keys_of, lookup, set_value}
 use Rattle.std.specs.Option.{IsSome}
 use Rattle.std.specs.Ordering.{is_eq}
 use Rattle.std.specs.declared.cmp.Ordering.TheVariants.{Equal}
-use Rattle.std.specs.Prelude.{cond, not, ◌&&◌, ◌||◌, unwrap_or}
+use Rattle.std.specs.Prelude.{cond, is_some, not, ◌&&◌, ◌||◌, unwrap_or}
 use Rattle.voy_schema.specs.Rows.{counting_tuple, key_of}
 use Rattle.voy_schema.specs.contracts.value.ValueOrd.TheImpl as value_order
 use Rattle.voy_schema.specs.contracts.value.ValueOrd.TheImpl.Laws as value_laws
@@ -25,8 +24,9 @@ use Rattle.voy_schema.specs.declared.value.Value.TheVariants.{Null, Text}
 use Rattle.voy_contents.proofs.RowLemmas.{exact_lists, in_place-at, key_exact, key_order}
 use Rattle.voy_contents.proofs.SlotLemmas.{Passes, any_at, at_any, is_equal, lookup_set}
 use Rattle.voy_contents.specs.MemTables.{Agrees, AreApart, HasPlace, RowSlots, TupleSlots, are_in_place, has_tuple, is_in_place, is_listed, row_at, rows_of, standing, tuple_cmp, with_listed}
-use Rattle.voy_tables.specs.Keys.{key_cmp, same_key, same_tuple, same_value, same_values}
-use Rattle.voy_tables.specs.Lists.{is_taken}
+use Rattle.voy_tables.specs.Keys.{key_cmp, same_key, same_tuple}
+use Rattle.voy_tables.specs.Lists.{is_taken, stands_elsewhere}
+use Rattle.voy_tables.specs.SameLaws.{same_tuple-decides}
 
 value_exact : CmpEqualImpliesEq value_order.ghosts.cmp
 value_exact Null Null same = refl
@@ -39,20 +39,6 @@ tuple_order = lists_total value_laws.total-law
 
 pub tuple_exact : CmpEqualImpliesEq tuple_cmp
 tuple_exact = exact_lists value_exact
-
-pub same_values-decides : (a b : List Value) → Decides (same_values a b) (a ≡ b)
-same_values-decides = pointwise_decides value_decides where
-  value_decides : (a b : Value) → Decides (same_value a b) (a ≡ b)
-  value_decides Null Null = (λ h. refl, λ h. refl)
-  value_decides Null (Text b) = (λ h. cc, λ h. cc)
-  value_decides (Text a) Null = (λ h. cc, λ h. cc)
-  value_decides (Text a) (Text b) = (λ h. ap Text ((bytes_decides a b).0 h), λ h. (bytes_decides a b).1 (cc))
-
--- a tuple is the same as another one exactly where they are equal
-pub same_tuple-decides : (a : List Value) (b : Option (List Value)) → Decides (same_tuple (Some a) b) (b ≡ Some a)
-unfolding same_tuple
-same_tuple-decides a None = (λ h. cc, λ h. cc)
-same_tuple-decides a (Some b) = (λ h. ap Some (sym ((same_values-decides a b).0 h)), λ h. (same_values-decides a b).1 (cc))
 
 pub same_tuple-nothing : (values : List Value) → same_tuple (Some values) None ≡ false
 unfolding same_tuple
@@ -108,21 +94,11 @@ taken-others t key unique values (s ∷ slots) in_place =
 pub is_taken-others : (t : Table) (key : List (List ℕ)) (unique : UniqueKey) (values : List Value) (after : Option (List Value)) (slots : RowSlots)
     → are_in_place t slots ≡ true → counting_tuple unique after ≡ Some values → is_taken t key after (rows_of slots) unique ≡ others key unique values slots
 is_taken-others t key unique values after slots in_place counts =
-    ap (λ o. list_any (λ row. not (same_key (key_of t row) key) && same_tuple o (counting_tuple unique (Some row))) (rows_of slots)) counts
-    ∙ taken-others t key unique values slots in_place
+    ap (λ o. is_some o && stands_elsewhere t key o (rows_of slots) unique) counts ∙ taken-others t key unique values slots in_place
 
 pub is_taken-nothing : (t : Table) (key : List (List ℕ)) (unique : UniqueKey) (after : Option (List Value)) (rows : List (List Value))
     → counting_tuple unique after ≡ None → is_taken t key after rows unique ≡ false
-unfolding same_tuple
-is_taken-nothing t key unique after rows counts =
-    ap (λ o. list_any (λ row. not (same_key (key_of t row) key) && same_tuple o (counting_tuple unique (Some row))) rows) counts ∙ none rows
-  where
-    none : (rows : List (List Value)) → list_any (λ row. not (same_key (key_of t row) key) && false) rows ≡ false
-    none [] = refl
-    none (row ∷ rows) = rw (none rows) (neither (not (same_key (key_of t row) key))) where
-      neither : (b : Bool) → ((b && false) || false) ≡ false
-      neither true = refl
-      neither false = refl
+is_taken-nothing t key unique after rows counts = ap (λ o. is_some o && stands_elsewhere t key o rows unique) counts
 
 pub itself : (key : List (List ℕ)) → is_at (key_cmp key) key ≡ true
 itself key = ap is_eq (same key) where
@@ -272,8 +248,8 @@ listed-with (Some own) b values index place =
 
     same : same_tuple (Some values) (Some own) ≡ is_at (tuple_cmp own) values
     same = both_ways (same_tuple (Some values) (Some own)) (is_at (tuple_cmp own) values)
-        (λ h. ap (is_at (tuple_cmp own)) (sym (same_Some own values ((same_tuple-decides values (Some own)).0 h))) ∙ itself_at)
-        (λ at. (same_tuple-decides values (Some own)).1 (ap Some (tuple_exact own values (is_equal (tuple_cmp own values) at))))
+        (λ h. ap (is_at (tuple_cmp own)) (same_Some values own ((same_tuple-decides (Some values) (Some own)).0 h)) ∙ itself_at)
+        (λ at. (same_tuple-decides (Some values) (Some own)).1 (ap Some (sym (tuple_exact own values (is_equal (tuple_cmp own values) at)))))
 
 -- places stay
 pub place-kept : (o : Option (List Value)) (b : Bool) (other : Option (List Value)) (index : TupleSlots) → HasPlace o index → HasPlace other index → HasPlace other (with_listed o b index)

@@ -1,34 +1,16 @@
 -- A change of one row of a table in memory, made ready so that to do it takes no memory.
-use Rattle.std.specs.Prelude.{◌≡◌, ℕ, true, List, Option, Some, None}
+use Rattle.std.specs.Prelude.{◌≡◌, true, List, None}
 use Rattle.std.specs.BTreeMap.{is_at}
 use Rattle.std.specs.Map.{lookup}
 use Rattle.std.specs.Option.{IsSome}
-use Rattle.voy_schema.specs.Rows.{key_of}
 use Rattle.voy_schema.specs.declared.table.Table.{Table}
 use Rattle.voy_schema.specs.declared.value.Value.{Value}
 use Rattle.voy_contents.specs.MemTables.{HavePlaces, IsMemTable, RowSlots, TupleSlots, is_in_place, rows_of, tuples_of}
 use Rattle.voy_contents.specs.declared.step.Step.{Step}
+use Rattle.voy_tables.specs.Changes.{after_of, before_of, key_changed}
 use Rattle.voy_tables.specs.Keys.{key_cmp}
 use Rattle.voy_tables.specs.Lists.{row_with_key, rows_after, unique_misfit}
 use Rattle.voy_tables.specs.declared.change.Change.{Change}
-use Rattle.voy_tables.specs.declared.change.Change.TheVariants.{Insert, Update, Delete}
-
--- the row before a change, and after it
-abbrev pub before_of : Change → Option (List Value)
-before_of (Insert table after) = None
-before_of (Update table before after) = Some before
-before_of (Delete table before) = Some before
-
-abbrev pub after_of : Change → Option (List Value)
-after_of (Insert table after) = Some after
-after_of (Update table before after) = Some after
-after_of (Delete table before) = None
-
--- the key of the row that a change of this table is of
-abbrev pub key_changed : Table → Change → List (List ℕ)
-key_changed t (Insert table after) = key_of t after
-key_changed t (Update table before after) = key_of t before
-key_changed t (Delete table before) = key_of t before
 
 -- the step does this change of the table
 pub record IsStepOf (t : Table) (c : Change) (step : Step) : Type 0 where

@@ -6,7 +6,7 @@ ghost use Rattle.voy_tables.specs.Keys.{same_tuple};
 use crate::slots::Slots;
 use crate::tuples::Tuples;
 use std::alloc::AllocError;
-use voy_schema::{Items, Same, Tuple, Value};
+use voy_schema::{Items, Tuple, Value};
 
 /// The tuples of one unique key, with whether a row has them.
 pub(crate) type Index = Slots<Tuple<Value>, bool>;
@@ -100,7 +100,7 @@ fn is_same(tuple: &Option<Tuple<Value>>, values: &Tuple<Value>) -> bool
     ensures { result ≡ same_tuple (Some values.now) tuple.now }
 {
     match tuple {
-        Some(own) => own.same(values),
+        Some(own) => *own == *values,
         None => false,
     }
 }

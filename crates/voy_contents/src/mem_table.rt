@@ -7,7 +7,8 @@ ghost use Rattle.voy_tables.specs.Keys.{key_cmp};
 ghost use Rattle.voy_schema.specs.Rows.{key_of};
 ghost use Rattle.voy_contents.specs.Known.{index_places};
 ghost use Rattle.voy_contents.specs.MemTables.{HavePlaces, IsMemTable, KeepsPlaces, KeepsRows, SweepsRows, row_at, rows_of, tuples_of};
-ghost use Rattle.voy_contents.specs.Steps.{HasStepPlaces, IsReady, IsStepOf, IsSwapped, before_of};
+ghost use Rattle.voy_contents.specs.Steps.{HasStepPlaces, IsReady, IsStepOf, IsSwapped};
+ghost use Rattle.voy_tables.specs.Changes.{before_of};
 ghost use Rattle.voy_schema.specs.declared.table.Table.{Table};
 ghost use Rattle.voy_tables.specs.Lists.{is_taken, misfit_by, misfit_in, row_with_key, unique_misfit};
 ghost use Rattle.voy_txn.specs.History.{counted};
@@ -18,7 +19,7 @@ use crate::step::Step;
 use crate::tuples::Tuples;
 use std::alloc::{AllocError, Global};
 use std::mem::swap;
-use voy_schema::{Copies, Items, Key, Row, Rows, Same, Table, UniqueKey};
+use voy_schema::{Copies, Items, Key, Row, Rows, Table, UniqueKey};
 use voy_tables::{Change, Misfit};
 
 /// The rows of one table by key, and for each of its unique keys an index of the tuples that count.
@@ -257,7 +258,7 @@ fn misfit_instead(before: &Row, standing: Option<&Row>) -> Option<Misfit>
     match standing {
         None => Some(Misfit::NoRow),
         Some(row) => {
-            if row.same(before) {
+            if *row == *before {
                 None
             } else {
                 Some(Misfit::OtherRow)

@@ -1,10 +1,11 @@
 ghost use Rattle.std.specs.Prelude.{◌≡◌, IfOk};
 ghost use Rattle.std.specs.Option.{option_copied};
-ghost use Rattle.voy_schema.specs.Rows.{counting_tuple, counts, is_null, value_at, values_at};
+ghost use Rattle.voy_schema.specs.Rows.{counting_tuple, value_at, values_at};
 ghost use Rattle.voy_contents.specs.MemTables.{tuples_of};
 
 use std::alloc::{AllocError, Global};
 use voy_schema::{Copies, Items, Row, Table, Tuple, UniqueKey, Value};
+use voy_tables::has_counting_tuple;
 
 /// For each unique key of a table, the tuple of a row that counts.
 pub(crate) type Tuples = Items<Option<Tuple<Value>>>;
@@ -41,27 +42,6 @@ fn tuple_of(
             let values = values_at(alloc, row, unique.columns.as_slice())?;
             Ok(Some(values))
         }
-    }
-}
-
-/// Whether the tuple of `row` counts: none of its values is NULL.
-fn has_counting_tuple(unique: &UniqueKey, row: &Row) -> bool
-    ensures { result ≡ counts unique.now (values_at row.now unique.now.columns) }
-{
-    for place in unique.columns.as_slice() {
-        if is_null(row, *place) {
-            return false;
-        }
-    }
-    true
-}
-
-fn is_null(row: &Row, place: u32) -> bool
-    ensures { result ≡ is_null (value_at row.now place) }
-{
-    match row.get(place as usize) {
-        Some(Value::Text(_text)) => false,
-        _ => true,
     }
 }
 

@@ -48,8 +48,8 @@ pub front_in_all : (n : ℕ) (file : File) → IsFrontSettled n file → (image 
 front_in_all n file front image is = same_front n image file.safe (λ place below. is place (front place below))
 
 -- a settled file is settled in front as far as one likes
-pub settled_front : (n : ℕ) (bytes : List ℕ) → IsFrontSettled n (settled bytes)
-settled_front n bytes = λ place below. tt
+pub settled_to_any : (n : ℕ) (bytes : List ℕ) → IsFrontSettled n (settled bytes)
+settled_to_any n bytes = λ place below. tt
 
 -- a change behind a settled front leaves it settled
 pub touched_behind : (n at m : ℕ) (file : File) (now : List ℕ) → n ≤ at → IsFrontSettled n file → IsFrontSettled n (touch file at m now)
@@ -58,7 +58,7 @@ touched_behind n at m file now behind front = λ place below. untouched_more fil
 -- after a change behind the end that is safe, each image has the old bytes in front
 pub old_bytes_in_front : (bytes : List ℕ) (at n : ℕ) (now image : List ℕ) → length bytes ≤ at → IsImage (touch (settled bytes) at n now) image → take (length bytes) image ≡ bytes
 old_bytes_in_front bytes at n now image behind is =
-    front_in_all (length bytes) (touch (settled bytes) at n now) (touched_behind (length bytes) at n (settled bytes) now behind (settled_front (length bytes) bytes)) image is ∙ take-length bytes
+    front_in_all (length bytes) (touch (settled bytes) at n now) (touched_behind (length bytes) at n (settled bytes) now behind (settled_to_any (length bytes) bytes)) image is ∙ take-length bytes
 
 but_one : (at : ℕ) (bytes image : List ℕ) → suc at < length bytes → ((place : ℕ) → Outside at 1 place → slice_get image place ≡ slice_get bytes place) → (byte : ℕ) × (image ≡ take at bytes ++ (byte ∷ drop (suc at) bytes))
 but_one at [] image more same = absurd (omega (arith, more))

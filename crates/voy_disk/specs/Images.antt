@@ -5,6 +5,7 @@ use Rattle.std.specs.Option.{option_map}
 use Rattle.std.specs.Str.{bytes_eq}
 use Rattle.voy_disk.specs.File.{File, IsImage, settled}
 use Rattle.voy_disk.specs.Files.{Files}
+use Rattle.voy_disk.specs.Frames.{KeepsBeside, OneName}
 
 -- the bytes of the file of each name, if there is one
 abbrev pub Image : Type 0
@@ -36,9 +37,14 @@ with_file image name file = update bytes_eq image name file
 abbrev pub IsSettled : Files → Type 0
 IsSettled files = (name : List ℕ) (file : File) → files name ≡ Some file → file ≡ settled file.now
 
+-- the bytes of a file in an image; an absent file has none
+abbrev pub bytes_in : Option (List ℕ) → List ℕ
+bytes_in None = []
+bytes_in (Some bytes) = bytes
+
 -- every other file has the same bytes
 abbrev pub SameBut : List ℕ → Image → Image → Type 0
-SameBut name i j = (other : List ℕ) → other ≢ name → j other ≡ i other
+SameBut name i j = KeepsBeside (OneName name) i j
 
 -- the file of this name took a step, and every other one has the same bytes
 pub record StepAt (name : List ℕ) (step : List ℕ → List ℕ → Type 0) (i j : Image) : Type 0 where
@@ -47,6 +53,11 @@ pub record StepAt (name : List ℕ) (step : List ℕ → List ℕ → Type 0) (i
   pub was : i name ≡ Some before
   pub is : j name ≡ Some after
   pub by : step before after
+  pub others : SameBut name i j
+
+-- the file is there, empty where the name was free, and every other one has the same bytes
+pub record Creates (name : List ℕ) (i j : Image) : Type 0 where
+  pub is : j name ≡ Some (bytes_in (i name))
   pub others : SameBut name i j
 
 -- an empty file was made where the name was free
@@ -60,6 +71,15 @@ pub record Renames (from to : List ℕ) (i j : Image) : Type 0 where
   pub moved : j to ≡ i from
   pub gone : j from ≡ None
   pub others : (other : List ℕ) → other ≢ from → other ≢ to → j other ≡ i other
+
+-- one name in place of another
+pub record NewName : Type 0 where
+  pub from : List ℕ
+  pub to : List ℕ
+
+-- a file goes by the new name in place of the old one
+abbrev pub TakesName : NewName → Image → Image → Type 0
+TakesName name i j = Renames name.from name.to i j
 
 -- what an outage leaves of a file: one image of it, all of it safe
 pub data IsLeftAt : Option File → Option File → Type 0 where

@@ -1,7 +1,7 @@
 -- Laws of lawful steps that lead from one reading to another.
-use Rattle.std.proofs.Common.{◌≡◌, ◌∙◌, ap, refl, subst, sym, List, [], ◌∷◌, ◌++◌}
-use Rattle.voy_disk.specs.Steps.{Every, Goes, Lawful, Reaches, after_all}
-use Rattle.voy_disk.specs.StepLaws.{every_along, follows_on}
+use Rattle.std.proofs.Common.{◌≡◌, ◌∙◌, ap, refl, subst, sym, List, [], ◌∷◌, ◌++◌, map}
+use Rattle.voy_disk.specs.Steps.{Every, Follows, Goes, Lawful, Reaches, after_all}
+use Rattle.voy_disk.specs.StepLaws.{every_along, follows_nothing, follows_on, follows_weaker}
 
 module _ {R K : Type 0} (step : R → K → R) (may : R → K → Type 0) where
   after_more : (ks ls : List K) (r : R) → after_all step r (ks ++ ls) ≡ after_all step (after_all step r ks) ls
@@ -44,3 +44,41 @@ module _ {R K : Type 0} (step : R → K → R) (may : R → K → Type 0) where
   -- one call after another
   pub goes_on : {I : Type 0} (reads : I → R) (a b c : I → Type 0) → Goes reads step may a b → Goes reads step may b c → Goes reads step may a c
   goes_on reads a b c first next = follows_on first next (λ i j k here behind. reaches_on (reads i) (reads j) (reads k) here behind)
+
+  -- where nothing was done
+  pub goes_nothing : {I : Type 0} (reads : I → R) (images : I → Type 0) → Goes reads step may images images
+  goes_nothing reads images = follows_weaker (follows_nothing images) (λ i j same. subst (λ k. Reaches step may (reads i) (reads k)) (sym same) (reaches_nothing (reads i)))
+
+  module _ (relates : R → R → Type 0) (stays : (r : R) → relates r r) (on : (r s t : R) → relates r s → relates s t → relates r t)
+      (lengthens : (r : R) (k : K) → may r k → relates r (step r k)) where
+    lawful_relates : (ks : List K) (r : R) → Lawful step may r ks → relates r (after_all step r ks)
+    lawful_relates [] r lawful = stays r
+    lawful_relates (k ∷ ks) r lawful = on r (step r k) (after_all step (step r k) ks) (lengthens r k lawful.0) (lawful_relates ks (step r k) lawful.1)
+
+    -- what each step lengthens, the whole lengthens
+    pub reaches_relates : (r s : R) → Reaches step may r s → relates r s
+    reaches_relates r s reach = rw reach.ends (lawful_relates reach.steps r reach.lawful)
+
+    -- and so in every image
+    pub goes_relates : {I : Type 0} (reads : I → R) (old new : I → Type 0) → Goes reads step may old new → Follows (λ i j. relates (reads i) (reads j)) old new
+    goes_relates reads old new goes = follows_weaker goes (λ i j reach. reaches_relates (reads i) (reads j) reach)
+
+-- a part of a whole whose other parts stay, with the steps of the part as steps of the whole
+module _ {R K Q L : Type 0} (step : R → K → R) (may : R → K → Type 0) (whole_step : Q → L → Q) (whole_may : Q → L → Type 0) (wrap : R → Q) (embed : K → L)
+    (same : (r : R) (k : K) → wrap (step r k) ≡ whole_step (wrap r) (embed k)) (leave : (r : R) (k : K) → may r k → whole_may (wrap r) (embed k)) where
+  lift_after : (ks : List K) (r : R) → wrap (after_all step r ks) ≡ after_all whole_step (wrap r) (map embed ks)
+  lift_after [] r = refl
+  lift_after (k ∷ ks) r = lift_after ks (step r k) ∙ ap (λ q. after_all whole_step q (map embed ks)) (same r k)
+
+  lift_lawful : (ks : List K) (r : R) → Lawful step may r ks → Lawful whole_step whole_may (wrap r) (map embed ks)
+  lift_lawful [] r lawful = tt
+  lift_lawful (k ∷ ks) r lawful =
+      (leave r k lawful.0, subst (λ q. Lawful whole_step whole_may q (map embed ks)) (same r k) (lift_lawful ks (step r k) lawful.1))
+
+  -- lawful steps of the part are lawful steps of the whole
+  pub reaches_lift : (r s : R) → Reaches step may r s → Reaches whole_step whole_may (wrap r) (wrap s)
+  reaches_lift r s reach = record {
+    steps = map embed reach.steps;
+    lawful = lift_lawful reach.steps r reach.lawful;
+    ends = ap wrap reach.ends ∙ lift_after reach.steps r;
+  }

@@ -28,6 +28,11 @@ Same i j = j ≡ i
 abbrev pub SomeFirst : {I S : Type 0} → (List S → I → I → Type 0) → List S → I → I → Type 0
 SomeFirst does steps i j = (n : ℕ) × does (take n steps) i j
 
+-- steps one after the other, each from where the one in front of it led
+abbrev pub InTurn : {I S : Type 0} → (S → I → I → Type 0) → List S → I → I → Type 0
+InTurn step [] i k = k ≡ i
+InTurn {I} step (s ∷ ss) i k = (j : I) × step s i j × InTurn step ss j k
+
 -- whatever the answer, each image after has some first steps more than an image before
 abbrev pub LeavesPrefix : {I S : Type 0} → (List S → I → I → Type 0) → List S → (I → Type 0) → (I → Type 0) → Type 0
 LeavesPrefix does steps old new = Follows (SomeFirst does steps) old new

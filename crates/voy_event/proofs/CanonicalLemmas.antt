@@ -28,7 +28,8 @@ use Rattle.voy_tables.specs.declared.change.Change.{Change}
 use Rattle.voy_tables.specs.declared.change.Change.TheVariants as change
 use Rattle.voy_tables.specs.declared.change.Role.{Role}
 use Rattle.voy_tables.specs.declared.change.Role.TheVariants as exporter
-use Rattle.voy_event.specs.LineText.{after_data, before_data, change_data, cutover_data, key_data, keyed_row, op_text, row_data, value_data, with_columns, with_text, with_texts}
+use Rattle.voy_event.specs.LineText.{after_data, before_data, change_data, cutover_data, key_data, op_text, row_data, value_data, with_columns, with_text, with_texts}
+use Rattle.voy_tables.specs.Changes.{keyed_row}
 use Rattle.voy_event.specs.Words.{text_of_role}
 
 -- ---- texts
@@ -118,7 +119,7 @@ RowsAreLawful t (change.Insert table after) = is_lawful_row t after ≡ true
 RowsAreLawful t (change.Update table before after) = (is_lawful_row t before ≡ true) × (is_lawful_row t after ≡ true)
 RowsAreLawful t (change.Delete table before) = is_lawful_row t before ≡ true
 
-values_of : (t : Table) (row : List Value) → is_lawful_row t row ≡ true → has_lawful_values t.columns row ≡ true
+pub values_of : (t : Table) (row : List Value) → is_lawful_row t row ≡ true → has_lawful_values t.columns row ≡ true
 values_of t row lawful = (and_parts (has_lawful_values t.columns row) _ lawful).0
 
 row_is_canonical : (t : Table) (row : List Value) → LawfulParts t → is_lawful_row t row ≡ true → IsCanonical (row_data t.columns row)

@@ -15,7 +15,8 @@ use Rattle.voy_schema.specs.declared.value.Value.TheVariants.{Null, Text}
 use Rattle.voy_tables.specs.declared.change.Change.{Change}
 use Rattle.voy_tables.specs.declared.change.Change.TheVariants as change
 use Rattle.voy_tables.specs.declared.change.Role.{Role}
-use Rattle.voy_event.specs.LineText.{after_data, before_data, change_data, change_data_in, cutover_data, key_data, keyed_row, value_data, what_data, with_columns, with_text, with_texts}
+use Rattle.voy_event.specs.LineText.{after_data, before_data, change_data, change_data_in, cutover_data, key_data, value_data, what_data, with_columns, with_text, with_texts}
+use Rattle.voy_tables.specs.Changes.{keyed_row}
 use Rattle.std.specs.Prelude.{slice_get}
 use Rattle.voy_event.specs.declared.event.What.{What}
 use Rattle.voy_event.specs.declared.event.What.TheVariants as what

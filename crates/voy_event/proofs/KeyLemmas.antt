@@ -18,7 +18,7 @@ use Rattle.voy_schema.specs.declared.value.Value.{Value}
 use Rattle.voy_event.proofs.MemberLemmas.{all_weaker, differ, is_column-at, name_of, names_of-put, or_first, or_second, same_text}
 use Rattle.voy_event.specs.Fields.{agrees_at, is_column, is_key_column, is_name_at}
 use Rattle.voy_event.specs.LineText.{with_text, with_texts}
-use Rattle.voy_event.specs.Words.{text_at}
+use Rattle.voy_json.specs.Document.{text_at}
 
 -- ---- columns at two places have two names
 

@@ -17,7 +17,8 @@ use Rattle.voy_event.proofs.ReadBack.{belongs_to, no_table, rows_of}
 use Rattle.voy_event.specs.Events.{closing_line}
 use Rattle.voy_event.specs.LawfulEvent.{IsLawful, IsLawfulFrom}
 use Rattle.voy_event.specs.Laws.{LinesStandInSegments}
-use Rattle.voy_event.specs.LineText.{change_data, change_data_in, cutover_data, event_data, line_text, table_of, what_data}
+use Rattle.voy_event.specs.LineText.{change_data, change_data_in, cutover_data, event_data, line_text, what_data}
+use Rattle.voy_tables.specs.Changes.{table_of}
 use Rattle.voy_event.specs.declared.event.Event.{Event}
 use Rattle.voy_event.specs.declared.event.What.{What}
 use Rattle.voy_event.specs.declared.event.What.TheVariants as what

@@ -21,7 +21,8 @@ use Rattle.voy_schema.specs.declared.table.Column.{Column}
 use Rattle.voy_schema.specs.declared.table.Table.{Table}
 use Rattle.voy_schema.specs.declared.value.Value.{Value}
 use Rattle.voy_schema.specs.declared.value.Value.TheVariants.{Null, Text}
-use Rattle.voy_event.specs.Fields.{in_front, is_column, row_of, value_of}
+use Rattle.voy_event.specs.Fields.{is_column, row_of, value_of}
+use Rattle.voy_schema.specs.Parts.{in_front}
 use Rattle.voy_event.specs.LineText.{value_data, with_columns}
 
 pub same_text : (s : List ℕ) → bytes_eq s s ≡ true

@@ -15,25 +15,28 @@ use Rattle.voy_schema.specs.LawfulLaws.{LawfulParts, place_of-at, table_is_lawfu
 use Rattle.voy_schema.specs.Rows.{has_lawful_values, is_lawful_row, text_of, values_at}
 use Rattle.voy_schema.specs.declared.table.Table.{Table}
 use Rattle.voy_schema.specs.declared.value.Value.{Value}
-use Rattle.voy_tables.proofs.SameLemmas.{same_key-decides}
+use Rattle.voy_tables.specs.SameLaws.{same_key-decides}
 use Rattle.voy_tables.specs.Changes.{is_row_of, is_well_formed, key_in}
 use Rattle.voy_tables.specs.Keys.{same_key}
 use Rattle.voy_tables.specs.declared.change.Change.{Change}
 use Rattle.voy_tables.specs.declared.change.Change.TheVariants as change
 use Rattle.voy_tables.specs.declared.change.Role.{Role}
 use Rattle.voy_tables.specs.declared.change.Role.TheVariants as exporter
-use Rattle.voy_event.proofs.CanonicalLemmas.{RowsAreLawful, change_is_canonical, change_is_shallow, cutover_is_canonical, cutover_is_shallow}
+use Rattle.voy_event.proofs.CanonicalLemmas.{RowsAreLawful, change_is_canonical, change_is_shallow, cutover_is_canonical, cutover_is_shallow, values_of}
 use Rattle.voy_event.proofs.KeyLemmas.{agrees-same_key, agrees-with_texts, key_names_are_known, key_names_are_of_key}
 use Rattle.voy_event.proofs.MemberLemmas.{columns_are_known, names_of-with_columns, row_of-with_columns, same_text}
 use Rattle.voy_event.specs.ChangeLine.{PlacedTable, change_of, has_known_columns, has_long_row, placed, table_named}
-use Rattle.voy_event.specs.InTurn.{change_event, cutover_event, cutover_vsn, document_reading, kind_reading, known_reading, stamped, table_reading, within_limit}
+use Rattle.voy_event.specs.InTurn.{change_event, cutover_event, cutover_vsn, document_in_turn, kind_in_turn, known_in_turn, stamped, table_in_turn, within_limit}
 use Rattle.voy_event.specs.InTurnLaws.{line_is_in_turn}
 use Rattle.voy_event.specs.EventLine.{change_event_names, cutover_names, from_one, line_reading, max_event_line_bytes, vsn_at}
 use Rattle.voy_event.specs.Fields.{is_column, is_key_of_row, is_null, names_in, only_if, row_at, row_with_key}
 use Rattle.voy_event.specs.Laws.{EventsReadBack}
 use Rattle.voy_event.specs.LawfulEvent.{IsLawfulChange, IsLawfulFrom}
-use Rattle.voy_event.specs.LineText.{after_data, before_data, change_data, change_data_in, cutover_data, key_data, keyed_row, line_text, row_data, table_of, what_data}
-use Rattle.voy_event.specs.Words.{event_kind, in_64_bits, kind_of_text, op_of_text, role_at, role_of_text, text_at, text_of_role}
+use Rattle.voy_event.specs.LineText.{after_data, before_data, change_data, change_data_in, cutover_data, key_data, line_text, row_data, what_data}
+use Rattle.voy_tables.specs.Changes.{keyed_row}
+use Rattle.voy_tables.specs.Changes.{table_of}
+use Rattle.voy_event.specs.Words.{event_kind, in_64_bits, kind_of_text, op_of_text, role_at, role_of_text, text_of_role}
+use Rattle.voy_json.specs.Document.{text_at}
 use Rattle.voy_event.specs.declared.event.Event.{Event}
 use Rattle.voy_event.specs.declared.event.What.{What}
 use Rattle.voy_event.specs.declared.event.What.TheVariants as what
@@ -95,9 +98,6 @@ kind_there t vsn role (change.Delete table before) = refl
 
 only_if-passes : (p : List Value → Bool) (row : List Value) → p row ≡ true → only_if p (Some row) ≡ Some row
 only_if-passes p row passes = rw passes refl
-
-values_of : (t : Table) (row : List Value) → is_lawful_row t row ≡ true → has_lawful_values t.columns row ≡ true
-values_of t row lawful = (and_parts (has_lawful_values t.columns row) _ lawful).0
 
 key_agrees : (t : Table) (keyed row : List Value) → LawfulParts t → map text_of (values_at keyed t.primary_key) ≡ map text_of (values_at row t.primary_key)
     → is_key_of_row t (key_data t keyed) row ≡ true
@@ -175,15 +175,15 @@ table_found tables place t lawful stands =
     ap (option_and_then (placed tables)) (place_of-at tables place t lawful stands)
     ∙ ap (option_map (λ (u : Table). let p : PlacedTable = record { place = place; table = u } in p)) stands
 
-known_table : (t : Table) (p : PlacedTable) (d : Data) → has_known_columns p.table d ≡ true → known_reading d (Some p) ≡ Ok p
+known_table : (t : Table) (p : PlacedTable) (d : Data) → has_known_columns p.table d ≡ true → known_in_turn d (Some p) ≡ Ok p
 known_table t p d known = rw known refl
 
 table_reads : (tables : List Table) (place : ℕ) (t : Table) (vsn : ℕ) (role : Role) (c : Change) → is_lawful tables ≡ true → slice_get tables place ≡ Some t
-    → table_reading tables change_event_names (change_data t vsn role c) ≡ Ok (record { place = place; table = t })
+    → table_in_turn tables change_event_names (change_data t vsn role c) ≡ Ok (record { place = place; table = t })
 unfolding change_data change_event_names
 table_reads tables place t vsn role c lawful stands =
     let p : PlacedTable = record { place = place; table = t } in
-    ap (known_reading (change_data t vsn role c)) (table_found tables place t lawful stands)
+    ap (known_in_turn (change_data t vsn role c)) (table_found tables place t lawful stands)
     ∙ known_table t p (change_data t vsn role c) (columns_known t vsn role c)
 
 -- ---- the whole line
@@ -208,13 +208,13 @@ rows_of t (change.Delete table before) belongs = belongs
 
 change_line_reads : (tables : List Table) (t : Table) (vsn : ℕ) (role : Role) (c : Change) → is_lawful tables ≡ true
     → slice_get tables (table_of c) ≡ Some t → 1 ≤ vsn → vsn < 2 ^ 64 → IsLawfulChange tables c
-    → kind_reading tables (change_data t vsn role c) (event_kind (change_data t vsn role c)) ≡ Ok (record { vsn = vsn; role = role; what = what.Change c })
+    → kind_in_turn tables (change_data t vsn role c) (event_kind (change_data t vsn role c)) ≡ Ok (record { vsn = vsn; role = role; what = what.Change c })
 change_line_reads tables t vsn role c lawful stands from fits change =
     let line = change_data t vsn role c in
     let p : PlacedTable = record { place = table_of c; table = t } in
     let parts = table_parts t (table_is_lawful tables (table_of c) t lawful stands) in
     let belongs = belongs_to tables t c stands change.well_formed in
-    ap (kind_reading tables line) (kind_there t vsn role c)
+    ap (kind_in_turn tables line) (kind_there t vsn role c)
     ∙ ap (change_event (op_of c) line) (table_reads tables (table_of c) t vsn role c lawful stands)
     ∙ ap (λ n. stamped n (role_at line) (within_limit (change_of (op_of c) p line))) (vsn_there t vsn role c from fits)
     ∙ ap (λ r. stamped (Some vsn) r (within_limit (change_of (op_of c) p line))) (role_there t vsn role c)
@@ -227,41 +227,41 @@ cutover_vsn_reads op vsn role from fits =
     ap (λ b. if b then ok_or (from_one (in_64_bits (Some vsn))) why.BadValue else Err why.BadValue) (same_text (text_of_role role))
     ∙ ap (λ o. ok_or o why.BadValue) (number_reads vsn from fits)
 
-to_target_kind : (tables : List Table) (vsn : ℕ) → document_reading tables (Some (cutover_data (codes "cutover.target") vsn exporter.Source))
+to_target_kind : (tables : List Table) (vsn : ℕ) → document_in_turn tables (Some (cutover_data (codes "cutover.target") vsn exporter.Source))
     ≡ cutover_event exporter.Source what.CutoverTarget (cutover_vsn exporter.Source (cutover_data (codes "cutover.target") vsn exporter.Source))
 unfolding cutover_data kind_of_text
 to_target_kind tables vsn = refl
 
-to_source_kind : (tables : List Table) (vsn : ℕ) → document_reading tables (Some (cutover_data (codes "cutover.source") vsn exporter.Target))
+to_source_kind : (tables : List Table) (vsn : ℕ) → document_in_turn tables (Some (cutover_data (codes "cutover.source") vsn exporter.Target))
     ≡ cutover_event exporter.Target what.CutoverSource (cutover_vsn exporter.Target (cutover_data (codes "cutover.source") vsn exporter.Target))
 unfolding cutover_data kind_of_text
 to_source_kind tables vsn = refl
 
 to_target_reads : (tables : List Table) (vsn : ℕ) (role : Role) → role ≡ exporter.Source → 1 ≤ vsn → vsn < 2 ^ 64
-    → document_reading tables (Some (cutover_data (codes "cutover.target") vsn role)) ≡ Ok (record { vsn = vsn; role = role; what = what.CutoverTarget })
+    → document_in_turn tables (Some (cutover_data (codes "cutover.target") vsn role)) ≡ Ok (record { vsn = vsn; role = role; what = what.CutoverTarget })
 to_target_reads tables vsn role is from fits =
-    subst (λ r. document_reading tables (Some (cutover_data (codes "cutover.target") vsn r)) ≡ Ok (record { vsn = vsn; role = r; what = what.CutoverTarget })) (sym is)
+    subst (λ r. document_in_turn tables (Some (cutover_data (codes "cutover.target") vsn r)) ≡ Ok (record { vsn = vsn; role = r; what = what.CutoverTarget })) (sym is)
     (to_target_kind tables vsn
     ∙ ap (cutover_event exporter.Source what.CutoverTarget) (cutover_vsn_reads (codes "cutover.target") vsn exporter.Source from fits))
 
 to_source_reads : (tables : List Table) (vsn : ℕ) (role : Role) → role ≡ exporter.Target → 1 ≤ vsn → vsn < 2 ^ 64
-    → document_reading tables (Some (cutover_data (codes "cutover.source") vsn role)) ≡ Ok (record { vsn = vsn; role = role; what = what.CutoverSource })
+    → document_in_turn tables (Some (cutover_data (codes "cutover.source") vsn role)) ≡ Ok (record { vsn = vsn; role = role; what = what.CutoverSource })
 to_source_reads tables vsn role is from fits =
-    subst (λ r. document_reading tables (Some (cutover_data (codes "cutover.source") vsn r)) ≡ Ok (record { vsn = vsn; role = r; what = what.CutoverSource })) (sym is)
+    subst (λ r. document_in_turn tables (Some (cutover_data (codes "cutover.source") vsn r)) ≡ Ok (record { vsn = vsn; role = r; what = what.CutoverSource })) (sym is)
     (to_source_kind tables vsn
     ∙ ap (cutover_event exporter.Target what.CutoverSource) (cutover_vsn_reads (codes "cutover.source") vsn exporter.Target from fits))
 
 object_reads : (tables : List Table) (t : Table) (vsn : ℕ) (role : Role) (c : Change)
-    → document_reading tables (Some (change_data t vsn role c)) ≡ kind_reading tables (change_data t vsn role c) (event_kind (change_data t vsn role c))
+    → document_in_turn tables (Some (change_data t vsn role c)) ≡ kind_in_turn tables (change_data t vsn role c) (event_kind (change_data t vsn role c))
 unfolding change_data
 object_reads tables t vsn role c = refl
 
 line_of_data : (tables : List Table) (d : Data) (e : Event) → length (compact_text d) ≤ max_event_line_bytes → data_of_bytes (compact_text d) ≡ Some d
-    → document_reading tables (Some d) ≡ Ok e → line_reading tables (compact_text d) ≡ Ok e
+    → document_in_turn tables (Some d) ≡ Ok e → line_reading tables (compact_text d) ≡ Ok e
 line_of_data tables d e short bytes read =
     line_is_in_turn tables (compact_text d)
-    ∙ ap (λ b. if b then Err why.TooLong else document_reading tables (data_of_bytes (compact_text d))) (le-ltb max_event_line_bytes (length (compact_text d)) short)
-    ∙ ap (document_reading tables) bytes ∙ read
+    ∙ ap (λ b. if b then Err why.TooLong else document_in_turn tables (data_of_bytes (compact_text d))) (le-ltb max_event_line_bytes (length (compact_text d)) short)
+    ∙ ap (document_in_turn tables) bytes ∙ read
 
 pub no_table : (tables : List Table) (c : Change) → is_well_formed tables c ≡ true → slice_get tables (table_of c) ≡ None → ⊥
 no_table tables (change.Insert table after) formed none = let row = subst (λ o. is_row_of o after ≡ true) none formed in cc

@@ -10,7 +10,7 @@ use Rattle.voy_tables.specs.RowText.{is_too_long}
 use Rattle.voy_tables.specs.declared.change.Change.{Change}
 use Rattle.voy_tables.specs.declared.change.Change.TheVariants as change
 use Rattle.voy_event.specs.Fields.{is_column, is_null, names_in, row_at}
-use Rattle.voy_event.specs.Words.{text_at}
+use Rattle.voy_json.specs.Document.{text_at}
 use Rattle.voy_event.specs.declared.change_line.Placed.{Placed}
 use Rattle.voy_event.specs.declared.words.Op.{Op}
 use Rattle.voy_event.specs.declared.words.Op.TheVariants.{Insert, Update, Delete}

@@ -9,7 +9,8 @@ use Rattle.voy_tables.specs.declared.change.Role.{Role}
 use Rattle.voy_tables.specs.declared.change.Role.TheVariants as exporter
 use Rattle.voy_event.specs.ChangeLine.{change_of, has_known_names, has_long_row, table_at}
 use Rattle.voy_event.specs.Refusal.{unless_broken}
-use Rattle.voy_event.specs.Words.{document, event_kind, number_at, role_at, text_at, text_of_role}
+use Rattle.voy_event.specs.Words.{document, event_kind, number_at, role_at, text_of_role}
+use Rattle.voy_json.specs.Document.{text_at}
 use Rattle.voy_event.specs.declared.event.Event.{Event}
 use Rattle.voy_event.specs.declared.event.What.{What}
 use Rattle.voy_event.specs.declared.event.What.TheVariants as what

@@ -11,7 +11,8 @@ use Rattle.voy_schema.specs.declared.table.Column.{Column}
 use Rattle.voy_schema.specs.declared.table.Table.{Table}
 use Rattle.voy_schema.specs.declared.value.Value.{Value}
 use Rattle.voy_schema.specs.declared.value.Value.TheVariants.{Null, Text}
-use Rattle.voy_event.specs.Words.{text_at}
+use Rattle.voy_json.specs.Document.{text_at}
+use Rattle.voy_schema.specs.Parts.{in_front}
 
 -- a column's value: a string or null
 abbrev pub value_of : Data → Option Value
@@ -21,10 +22,6 @@ value_of (number n) = None
 value_of (string s) = Some (Text s)
 value_of (array ds) = None
 value_of (object ms) = None
-
-abbrev pub in_front : Option Value → Option (List Value) → Option (List Value)
-in_front None row = None
-in_front (Some v) row = option_map (λ vs. v ∷ vs) row
 
 -- the values that an object has in these columns, in their order; nothing where one is absent or no value
 abbrev pub row_of : List Column → Data → Option (List Value)

@@ -10,10 +10,11 @@ use Rattle.voy_tables.specs.declared.change.Role.{Role}
 use Rattle.voy_tables.specs.declared.change.Role.TheVariants as exporter
 use Rattle.voy_event.specs.ChangeLine.{PlacedTable, change_of, has_known_columns, has_known_names, has_known_table, has_long_row, table_at, table_named}
 use Rattle.voy_event.specs.EventLine.{broken_rule, change_event_names, cutover_names, event, has_exporter, has_long_rows, line_reading, max_event_line_bytes, stated_event, vsn_at}
-use Rattle.voy_event.specs.InTurn.{change_event, cutover_event, cutover_vsn, document_reading, kind_reading, line_in_turn, recorded_change, recorded_document_reading, recorded_in_turn, recorded_op_reading, spotted, stamped, table_reading, within_limit}
-use Rattle.voy_event.specs.RecordedLine.{broken_recorded_rule, max_recorded_line_bytes, recorded_names, recorded_reading, stated_record}
+use Rattle.voy_event.specs.InTurn.{change_event, cutover_event, cutover_vsn, document_in_turn, kind_in_turn, line_in_turn, recorded_change, recorded_document_in_turn, recorded_in_turn, recorded_op_in_turn, spotted, stamped, table_in_turn, within_limit}
+use Rattle.voy_event.specs.RecordedLine.{broken_recorded_rule, max_recorded_line_bytes, recorded_names, recorded_line_reading, stated_record}
 use Rattle.voy_event.specs.Refusal.{unless_broken}
-use Rattle.voy_event.specs.Words.{change_op, document, event_kind, number_at, or_null, role_at, text_at}
+use Rattle.voy_event.specs.Words.{change_op, document, event_kind, number_at, or_null, role_at}
+use Rattle.voy_json.specs.Document.{text_at}
 use Rattle.voy_event.specs.declared.event.Event.{Event}
 use Rattle.voy_event.specs.declared.event.What.{What}
 use Rattle.voy_event.specs.declared.event.What.TheVariants as what
@@ -42,11 +43,11 @@ names_agree : {A : Type 0} (tables : List Table) (names : List (List ℕ)) (d : 
     (read : PlacedTable → Result A LineWhy)
     → stated None ≡ None → ((t : PlacedTable) → rest_of true true (stated (Some t)) (long (stated (Some t))) ≡ read t)
     → rest_of (has_names names d) (has_known_names tables names d) (stated (table_at tables d)) (long (stated (table_at tables d)))
-    ≡ by_table read (table_reading tables names d)
+    ≡ by_table read (table_in_turn tables names d)
 names_agree tables names d stated long read nothing each = by_names (has_names names d) refl where
   Goal : Type 0
   Goal = rest_of (has_names names d) (has_known_names tables names d) (stated (table_at tables d)) (long (stated (table_at tables d)))
-      ≡ by_table read (table_reading tables names d)
+      ≡ by_table read (table_in_turn tables names d)
 
   found : (s n : List ℕ) (o : Option PlacedTable) → table_named tables s n ≡ o → text_at (codes "schema_name") d ≡ Some s → text_at (codes "table_name") d ≡ Some n
       → has_names names d ≡ true → has_only_names names d ≡ true → Goal
@@ -93,12 +94,12 @@ stamped_agrees (Some n) (Some r) (Some c) = by_length (has_long_row c) refl wher
 change_agrees : (tables : List Table) (op : Op) (d : Data)
     → rest_of (has_names change_event_names d) (has_known_names tables change_event_names d) (stated_event tables d (Some (kind.Change op)))
     (has_long_rows (stated_event tables d (Some (kind.Change op))))
-    ≡ change_event op d (table_reading tables change_event_names d)
+    ≡ change_event op d (table_in_turn tables change_event_names d)
 change_agrees tables op d =
     names_agree tables change_event_names d (λ o. stated_by (vsn_at d) (role_at d) (option_and_then (λ t. change_of op t d) o)) has_long_rows
     (λ t. stamped (vsn_at d) (role_at d) (within_limit (change_of op t d))) (stated_none (vsn_at d) (role_at d))
     (λ t. stamped_agrees (vsn_at d) (role_at d) (change_of op t d))
-    ∙ same (table_reading tables change_event_names d)
+    ∙ same (table_in_turn tables change_event_names d)
   where
     same : (r : Result PlacedTable LineWhy) → by_table (λ t. stamped (vsn_at d) (role_at d) (within_limit (change_of op t d))) r ≡ change_event op d r
     same (Err cause) = refl
@@ -133,7 +134,7 @@ cutover_agrees role w d stated zero_short is short = subst (λ s. rest_of (has_n
   by_names true has = by_only (has_only_names cutover_names d) refl has
 
 kind_agrees : (tables : List Table) (bytes : List ℕ) (d : Data) (k : Option EventKind) → nat_lt max_event_line_bytes (length bytes) ≡ false → is_object d ≡ true
-    → unless_broken (broken_rule tables bytes d k) (stated_event tables d k) ≡ kind_reading tables d k
+    → unless_broken (broken_rule tables bytes d k) (stated_event tables d k) ≡ kind_in_turn tables d k
 kind_agrees tables bytes d None short is = rw (short, is) refl
 kind_agrees tables bytes d (Some (kind.Change op)) short is = rw (short, is) (change_agrees tables op d)
 kind_agrees tables bytes d (Some kind.CutoverTarget) short is =
@@ -143,10 +144,10 @@ kind_agrees tables bytes d (Some kind.CutoverSource) short is =
 
 document_agrees : (tables : List Table) (bytes : List ℕ) (o : Option Data) → nat_lt max_event_line_bytes (length bytes) ≡ false
     → unless_broken (broken_rule tables bytes (or_null o) (event_kind (or_null o))) (stated_event tables (or_null o) (event_kind (or_null o)))
-    ≡ document_reading tables o
+    ≡ document_in_turn tables o
 document_agrees tables bytes None short = rw short refl
 document_agrees tables bytes (Some d) short = by_object (is_object d) refl where
-  by_object : (b : Bool) → is_object d ≡ b → unless_broken (broken_rule tables bytes d (event_kind d)) (stated_event tables d (event_kind d)) ≡ document_reading tables (Some d)
+  by_object : (b : Bool) → is_object d ≡ b → unless_broken (broken_rule tables bytes d (event_kind d)) (stated_event tables d (event_kind d)) ≡ document_in_turn tables (Some d)
   by_object false other = rw (short, other) refl
   by_object true is = kind_agrees tables bytes d (event_kind d) short is ∙ rw is refl
 
@@ -185,7 +186,7 @@ spotted_agrees (Some n) (Some m) (Some c) = by_length (has_long_row c) refl wher
   by_length false short = rw short refl
 
 recorded_op_agrees : (tables : List Table) (bytes : List ℕ) (d : Data) (o : Option Op) → nat_lt max_recorded_line_bytes (length bytes) ≡ false → is_object d ≡ true
-    → unless_broken (broken_recorded_rule tables bytes d o) (stated_record tables d o) ≡ recorded_op_reading tables d o
+    → unless_broken (broken_recorded_rule tables bytes d o) (stated_record tables d o) ≡ recorded_op_in_turn tables d o
 recorded_op_agrees tables bytes d None short is = rw (short, is) refl
 recorded_op_agrees tables bytes d (Some op) short is =
     rw (short, is)
@@ -193,7 +194,7 @@ recorded_op_agrees tables bytes d (Some op) short is =
     (λ t. spotted (number_at (codes "commit") d) (number_at (codes "seq") d) (within_limit (change_of op t d)))
     (recorded_none (number_at (codes "commit") d) (number_at (codes "seq") d))
     (λ t. spotted_agrees (number_at (codes "commit") d) (number_at (codes "seq") d) (change_of op t d))
-    ∙ same (table_reading tables recorded_names d))
+    ∙ same (table_in_turn tables recorded_names d))
   where
     same : (r : Result PlacedTable LineWhy)
         → by_table (λ t. spotted (number_at (codes "commit") d) (number_at (codes "seq") d) (within_limit (change_of op t d))) r ≡ recorded_change op d r
@@ -202,17 +203,17 @@ recorded_op_agrees tables bytes d (Some op) short is =
 
 recorded_document_agrees : (tables : List Table) (bytes : List ℕ) (o : Option Data) → nat_lt max_recorded_line_bytes (length bytes) ≡ false
     → unless_broken (broken_recorded_rule tables bytes (or_null o) (change_op (or_null o))) (stated_record tables (or_null o) (change_op (or_null o)))
-    ≡ recorded_document_reading tables o
+    ≡ recorded_document_in_turn tables o
 recorded_document_agrees tables bytes None short = rw short refl
 recorded_document_agrees tables bytes (Some d) short = by_object (is_object d) refl where
   by_object : (b : Bool) → is_object d ≡ b
-      → unless_broken (broken_recorded_rule tables bytes d (change_op d)) (stated_record tables d (change_op d)) ≡ recorded_document_reading tables (Some d)
+      → unless_broken (broken_recorded_rule tables bytes d (change_op d)) (stated_record tables d (change_op d)) ≡ recorded_document_in_turn tables (Some d)
   by_object false other = rw (short, other) refl
   by_object true is = recorded_op_agrees tables bytes d (change_op d) short is ∙ rw is refl
 
 -- a recorded change line reads as the program reads it
-pub recorded_is_in_turn : (tables : List Table) (bytes : List ℕ) → recorded_reading tables bytes ≡ recorded_in_turn tables bytes
+pub recorded_is_in_turn : (tables : List Table) (bytes : List ℕ) → recorded_line_reading tables bytes ≡ recorded_in_turn tables bytes
 recorded_is_in_turn tables bytes = by_length (nat_lt max_recorded_line_bytes (length bytes)) refl where
-  by_length : (b : Bool) → nat_lt max_recorded_line_bytes (length bytes) ≡ b → recorded_reading tables bytes ≡ recorded_in_turn tables bytes
+  by_length : (b : Bool) → nat_lt max_recorded_line_bytes (length bytes) ≡ b → recorded_line_reading tables bytes ≡ recorded_in_turn tables bytes
   by_length true long = rw long refl
   by_length false short = recorded_document_agrees tables bytes (data_of_bytes bytes) short ∙ rw short refl

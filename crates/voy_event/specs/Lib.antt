@@ -8,6 +8,7 @@ pub mod LawfulEvent
 pub mod InTurn
 pub mod InTurnLaws
 pub mod RecordedLine
+pub mod ChangeLaws
 pub mod EventLaws
 pub mod RecordedLaws
 pub mod LineText

@@ -7,6 +7,7 @@ use Rattle.voy_schema.specs.declared.table.Column.{Column}
 use Rattle.voy_schema.specs.declared.table.Table.{Table}
 use Rattle.voy_schema.specs.declared.value.Value.{Value}
 use Rattle.voy_schema.specs.declared.value.Value.TheVariants.{Null, Text}
+use Rattle.voy_tables.specs.Changes.{keyed_row, table_of}
 use Rattle.voy_tables.specs.declared.change.Change.{Change}
 use Rattle.voy_tables.specs.declared.change.Change.TheVariants as change
 use Rattle.voy_tables.specs.declared.change.Role.{Role}
@@ -55,21 +56,10 @@ after_data t (change.Insert table after) = row_data t.columns after
 after_data t (change.Update table before after) = row_data t.columns after
 after_data t (change.Delete table before) = null
 
--- a row of the change, whose key is the key of each
-abbrev pub keyed_row : Change → List Value
-keyed_row (change.Insert table after) = after
-keyed_row (change.Update table before after) = before
-keyed_row (change.Delete table before) = before
-
 abbrev pub op_text : Change → List ℕ
 op_text (change.Insert table after) = codes "c"
 op_text (change.Update table before after) = codes "u"
 op_text (change.Delete table before) = codes "d"
-
-abbrev pub table_of : Change → ℕ
-table_of (change.Insert table after) = table
-table_of (change.Update table before after) = table
-table_of (change.Delete table before) = table
 
 -- an event line with a change of this table
 unfoldable pub change_data : Table → ℕ → Role → Change → Data

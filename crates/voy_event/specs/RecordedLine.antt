@@ -50,7 +50,7 @@ broken_recorded_rule tables bytes d op =
     else None
 
 -- the change that a recorded line states by the schema, or the first rule that it breaks
-abbrev pub recorded_reading : List Table → List ℕ → Result Recorded LineWhy
-recorded_reading tables bytes =
+abbrev pub recorded_line_reading : List Table → List ℕ → Result Recorded LineWhy
+recorded_line_reading tables bytes =
     let d = document bytes in
     unless_broken (broken_recorded_rule tables bytes d (change_op d)) (stated_record tables d (change_op d))

@@ -6,11 +6,12 @@ use Rattle.voy_event.specs.declared.line_error.LineError.TheVariants.{Bad, NoMem
 use Rattle.voy_event.specs.declared.line_error.LineWhy.{LineWhy}
 use Rattle.voy_event.specs.declared.line_error.LineWhy.TheVariants as why
 
--- the reading is that refusal, or memory was not found
-abbrev pub Refuses : {A : Type 0} → Result A LineWhy → LineError → Type 0
-Refuses reading (Bad cause) = reading ≡ Err cause
-Refuses reading NoMemory = Unit {0}
+-- the cause that an error names
+abbrev pub cause_of : LineError → Option LineWhy
+cause_of (Bad cause) = Some cause
+cause_of NoMemory = None
 
+-- the words of a cause
 abbrev pub text_of_why : LineWhy → List ℕ
 text_of_why why.TooLong = codes "too long"
 text_of_why why.NotJson = codes "not json"

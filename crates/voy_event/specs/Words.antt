@@ -2,8 +2,9 @@
 use Rattle.std.specs.Prelude.{ℕ, ◌^◌, List, Option, Some, None, codes, nat_lt, option_and_then, option_map, if◌then◌else◌}
 use Rattle.std.specs.Str.{bytes_eq}
 use Rattle.serde_json.specs.Data.{Data, null}
-use Rattle.serde_json.specs.Find.{as_number, as_str, as_u64, get}
+use Rattle.serde_json.specs.Find.{as_number, as_u64, get}
 use Rattle.voy_json.specs.Document.{data_of_bytes}
+use Rattle.voy_json.specs.Document.{text_at}
 use Rattle.voy_event.specs.declared.words.EventKind.{EventKind}
 use Rattle.voy_event.specs.declared.words.EventKind.TheVariants.{Change, CutoverTarget, CutoverSource}
 use Rattle.voy_event.specs.declared.words.Op.{Op}
@@ -42,10 +43,6 @@ role_of_text text =
 unfoldable pub text_of_role : Role → List ℕ
 text_of_role exporter.Source = codes "source_db_exporter"
 text_of_role exporter.Target = codes "target_db_exporter_fb"
-
--- the string at this name of an object
-abbrev pub text_at : List ℕ → Data → Option (List ℕ)
-text_at name d = option_and_then as_str (get name d)
 
 -- the number, where it is below 2 ^ 64
 abbrev pub in_64_bits : Option ℕ → Option ℕ

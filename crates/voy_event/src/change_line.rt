@@ -1,15 +1,16 @@
 ghost use Rattle.std.specs.Prelude.{◌≡◌, IfOk, IfErr, map, option_map};
 ghost use Rattle.serde_json.specs.View.{view};
 ghost use Rattle.voy_event.specs.ChangeLine.{change_of, has_known_columns, has_long_row, seen, table_named};
-ghost use Rattle.voy_event.specs.InTurn.{table_reading, within_limit};
-ghost use Rattle.voy_event.specs.Refusal.{Refuses};
+ghost use Rattle.voy_event.specs.InTurn.{table_in_turn, within_limit};
+ghost use Rattle.voy_schema.specs.Refusal.{Refuses};
+ghost use Rattle.voy_event.specs.Refusal.{cause_of};
 
 use crate::fields::{has_only_columns, is_null, row_at};
 use crate::line_error::{LineError, LineWhy};
-use crate::words::{Op, text_at};
+use crate::words::Op;
 use serde_json::Value as Json;
 use std::alloc::{AllocError, Global};
-use voy_json::{has_all, has_only};
+use voy_json::{has_all, has_only, text_at};
 use voy_schema::{Schema, Table};
 use voy_tables::{Change, row_text_is_too_long};
 
@@ -27,9 +28,9 @@ pub(crate) fn table_of_line<'a>(
     line: &Json,
 ) -> Result<Placed<'a>, LineWhy>
     ensures ok { IfOk result (λ placed.
-        table_reading schema.now.tables (map (λ name. name.now) names.now) (view line.now) ≡ Ok (seen placed)) }
+        table_in_turn schema.now.tables (map (λ name. name.now) names.now) (view line.now) ≡ Ok (seen placed)) }
     ensures err { IfErr result (λ cause.
-        table_reading schema.now.tables (map (λ name. name.now) names.now) (view line.now) ≡ Err cause) }
+        table_in_turn schema.now.tables (map (λ name. name.now) names.now) (view line.now) ≡ Err cause) }
 {
     if !has_all(line, names) {
         return Err(LineWhy::Missing);
@@ -80,7 +81,7 @@ pub(crate) fn read_row_change(
     ensures ok { IfOk result (λ change.
         within_limit (change_of op (seen placed.now) (view line.now)) ≡ Ok change) }
     ensures err { IfErr result
-        (Refuses (within_limit (change_of op (seen placed.now) (view line.now)))) }
+        (Refuses cause_of (within_limit (change_of op (seen placed.now) (view line.now)))) }
 {
     let Some(change) = change_of(alloc, op, placed, line)? else {
         return Err(LineError::Bad(LineWhy::BadValue));

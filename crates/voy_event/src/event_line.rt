@@ -1,18 +1,19 @@
 ghost use Rattle.std.specs.Prelude.{◌≡◌, Some, IfOk, IfErr};
 ghost use Rattle.serde_json.specs.View.{view};
 ghost use Rattle.voy_event.specs.EventLine.{has_exporter, line_reading, vsn_at};
-ghost use Rattle.voy_event.specs.InTurn.{cutover_vsn, document_reading, kind_reading, line_in_turn};
+ghost use Rattle.voy_event.specs.InTurn.{cutover_vsn, document_in_turn, kind_in_turn, line_in_turn};
 ghost use Rattle.voy_event.specs.LawfulEvent.{IsLawful};
-ghost use Rattle.voy_event.specs.Refusal.{Refuses};
+ghost use Rattle.voy_schema.specs.Refusal.{Refuses};
+ghost use Rattle.voy_event.specs.Refusal.{cause_of};
 
 use crate::change_line::{read_row_change, table_of_line};
 use crate::event::{Event, What};
 use crate::limits::MAX_EVENT_LINE_BYTES;
 use crate::line_error::{LineError, LineWhy};
-use crate::words::{EventKind, Op, event_kind, number_at, role_at, text_at, text_of_role};
+use crate::words::{EventKind, Op, event_kind, number_at, role_at, text_of_role};
 use serde_json::Value as Json;
 use std::alloc::Global;
-use voy_json::{ParseError, has_all, has_only, parse};
+use voy_json::{ParseError, has_all, has_only, parse, text_at};
 use voy_schema::Schema;
 use voy_tables::Role;
 
@@ -37,7 +38,7 @@ const CUTOVER_NAMES: [&str; 3] = ["exporter_role", "op", "vsn"];
 /// A line without a reading is `Bad` with the first cause that holds, in the order of [`LineWhy`].
 pub fn read_line(alloc: Global, schema: &Schema, bytes: &[u8]) -> Result<Event, LineError>
     ensures ok { IfOk result (λ event. line_reading schema.now.tables bytes.now ≡ Ok event) }
-    ensures err { IfErr result (Refuses (line_reading schema.now.tables bytes.now)) }
+    ensures err { IfErr result (Refuses cause_of (line_reading schema.now.tables bytes.now)) }
     ensures lawful { IfOk result (IsLawful schema.now.tables) }
 {
     read_in_turn(alloc, schema, bytes)
@@ -45,7 +46,7 @@ pub fn read_line(alloc: Global, schema: &Schema, bytes: &[u8]) -> Result<Event, 
 
 fn read_in_turn(alloc: Global, schema: &Schema, bytes: &[u8]) -> Result<Event, LineError>
     ensures ok { IfOk result (λ event. line_in_turn schema.now.tables bytes.now ≡ Ok event) }
-    ensures err { IfErr result (Refuses (line_in_turn schema.now.tables bytes.now)) }
+    ensures err { IfErr result (Refuses cause_of (line_in_turn schema.now.tables bytes.now)) }
 {
     if bytes.len() > MAX_EVENT_LINE_BYTES {
         return Err(LineError::Bad(LineWhy::TooLong));
@@ -59,8 +60,8 @@ fn read_in_turn(alloc: Global, schema: &Schema, bytes: &[u8]) -> Result<Event, L
 
 fn read_document(alloc: Global, schema: &Schema, line: &Json) -> Result<Event, LineError>
     ensures ok { IfOk result (λ event.
-        document_reading schema.now.tables (Some (view line.now)) ≡ Ok event) }
-    ensures err { IfErr result (Refuses (document_reading schema.now.tables (Some (view line.now)))) }
+        document_in_turn schema.now.tables (Some (view line.now)) ≡ Ok event) }
+    ensures err { IfErr result (Refuses cause_of (document_in_turn schema.now.tables (Some (view line.now)))) }
 {
     if !line.is_object() {
         return Err(LineError::Bad(LineWhy::NotJson));
@@ -89,9 +90,9 @@ fn read_change_event(
     line: &Json,
 ) -> Result<Event, LineError>
     ensures ok { IfOk result (λ event.
-        kind_reading schema.now.tables (view line.now) (Some (EventKind.Change op)) ≡ Ok event) }
+        kind_in_turn schema.now.tables (view line.now) (Some (EventKind.Change op)) ≡ Ok event) }
     ensures err { IfErr result
-        (Refuses (kind_reading schema.now.tables (view line.now) (Some (EventKind.Change op)))) }
+        (Refuses cause_of (kind_in_turn schema.now.tables (view line.now) (Some (EventKind.Change op)))) }
 {
     let placed = match table_of_line(schema, &CHANGE_EVENT_NAMES, line) {
         Ok(placed) => placed,

@@ -1,14 +1,14 @@
 ghost use Rattle.std.specs.Prelude.{◌≡◌, IfOk, option_map};
 ghost use Rattle.std.specs.List.{list_all};
 ghost use Rattle.serde_json.specs.View.{view};
-ghost use Rattle.voy_schema.specs.Rows as rows;
 ghost use Rattle.voy_json.specs.Document.{names_of};
 ghost use Rattle.voy_event.specs.Fields.{agrees_at, is_column, is_key_column, is_key_of_row, is_name_at, is_null, names_in, row_at, row_of, value_of};
 
-use crate::words::text_at;
 use serde_json::Value as Json;
 use std::alloc::{AllocError, Global};
+use voy_json::text_at;
 use voy_schema::{Column, Items, Row, Table, Text, Value, is_lawful_row};
+use voy_tables::key_text;
 
 /// Whether the object that may stand there has no name but those of the table's columns. Of what is no
 /// object nothing is asked.
@@ -152,19 +152,9 @@ fn agrees_at(table: &Table, key: &Json, row: &Row, place: u32) -> bool
 {
     match table.columns.get(place as usize) {
         Some(column) => match text_at(key, column.name.as_str()) {
-            Some(text) => text_in(row, place) == text,
+            Some(text) => key_text(row, place) == text,
             None => false,
         },
         None => false,
-    }
-}
-
-/// The text of the row's value at this place, the empty one where it has none there.
-pub(crate) fn text_in(row: &Row, place: u32) -> &str
-    ensures { result.now ≡ rows.text_of (rows.value_at row.now place) }
-{
-    match row.get(place as usize) {
-        Some(Value::Text(text)) => text.as_str(),
-        _ => "",
     }
 }

@@ -3,7 +3,7 @@
 //! [`read_line`] reads an event line by the schema and [`write_line`] writes one; [`read_change`] reads
 //! a line of a recording. A line is a JSON object. Which bytes are which event, and which refusal comes
 //! first where they are none, is one definition, `line_reading` of `specs/EventLine.antt`; for recorded
-//! lines it is `recorded_reading` of `specs/RecordedLine.antt`. Both share the rules on changes of
+//! lines it is `recorded_line_reading` of `specs/RecordedLine.antt`. Both share the rules on changes of
 //! `specs/ChangeLine.antt`. What was read is lawful for the schema (`IsLawful`).
 //!
 //! The text that is written is `line_text` of `specs/LineText.antt`: compact, with the names of every

@@ -2,15 +2,16 @@ ghost use Rattle.std.specs.Prelude.{◌≡◌, ◌++◌, slice_get, IfOk, OnOk, 
 ghost use Rattle.serde_json.specs.View.{members_view, view};
 ghost use Rattle.voy_schema.specs.Rows.{text_of, value_at};
 ghost use Rattle.voy_event.specs.LawfulEvent.{IsWritable, IsWritableChange};
-ghost use Rattle.voy_event.specs.LineText.{after_data, before_data, change_data, cutover_data, event_data, key_data, keyed_row, line_text, op_text, row_data, table_of, value_data, with_text};
+ghost use Rattle.voy_event.specs.LineText.{after_data, before_data, change_data, cutover_data, event_data, key_data, line_text, op_text, row_data, value_data, with_text};
+ghost use Rattle.voy_tables.specs.Changes.{keyed_row};
+ghost use Rattle.voy_tables.specs.Changes.{table_of};
 
 use crate::event::{Event, What};
-use crate::fields::text_in;
 use crate::words::text_of_role;
 use serde_json::{Map, Value as Json, json};
 use std::alloc::{AllocError, Global};
 use voy_schema::{Bytes, Column, Row, Schema, Table, Value};
-use voy_tables::{Change, Role};
+use voy_tables::{Change, Role, key_text};
 
 /// Appends the canonical text of the event's line to `to`, without LF. It asks an event that belongs to
 /// the schema, with a vsn from 1. After an error `to` is as before.
@@ -35,7 +36,7 @@ fn event_value(alloc: Global, schema: &Schema, event: &Event) -> Result<Json, Al
 {
     match &event.what {
         What::Change(change) => {
-            let table = table_of(schema, change);
+            let table = changed_table(schema, change);
             change_value(alloc, table, event.vsn, event.role, change)
         }
         What::CutoverTarget => cutover_value(alloc, "cutover.target", event.vsn, event.role),
@@ -43,23 +44,13 @@ fn event_value(alloc: Global, schema: &Schema, event: &Event) -> Result<Json, Al
     }
 }
 
-fn table_of<'a>(schema: &'a Schema, change: &Change) -> &'a Table
+fn changed_table<'a>(schema: &'a Schema, change: &Change) -> &'a Table
     requires { IsWritableChange schema.now.tables change.now }
     ensures { slice_get schema.now.tables (table_of change.now) ≡ Some result.now }
 {
-    match schema.tables.get(place_of_table(change) as usize) {
+    match schema.tables.get(change.table() as usize) {
         Some(table) => table,
         None => unreachable!(),
-    }
-}
-
-fn place_of_table(change: &Change) -> u32
-    ensures { result ≡ table_of change.now }
-{
-    match change {
-        Change::Insert { table, .. } => *table,
-        Change::Update { table, .. } => *table,
-        Change::Delete { table, .. } => *table,
     }
 }
 
@@ -188,6 +179,6 @@ fn put_text(
     let Some(column) = table.columns.get(place as usize) else {
         return Ok(());
     };
-    let text = String::from_str(alloc, text_in(row, place))?;
+    let text = String::from_str(alloc, key_text(row, place))?;
     serde_json::put(found, alloc, column.name.as_str(), Json::String(text))
 }

@@ -1,9 +1,10 @@
 ghost use Rattle.std.specs.Prelude.{◌≡◌, Some, IfOk, IfErr};
 ghost use Rattle.serde_json.specs.View.{view};
 ghost use Rattle.voy_event.specs.LawfulEvent.{IsLawfulChange};
-ghost use Rattle.voy_event.specs.InTurn.{recorded_document_reading, recorded_in_turn, recorded_op_reading};
-ghost use Rattle.voy_event.specs.RecordedLine.{recorded_reading};
-ghost use Rattle.voy_event.specs.Refusal.{Refuses};
+ghost use Rattle.voy_event.specs.InTurn.{recorded_document_in_turn, recorded_in_turn, recorded_op_in_turn};
+ghost use Rattle.voy_event.specs.RecordedLine.{recorded_line_reading};
+ghost use Rattle.voy_schema.specs.Refusal.{Refuses};
+ghost use Rattle.voy_event.specs.Refusal.{cause_of};
 
 use crate::change_line::{read_row_change, table_of_line};
 use crate::limits::MAX_RECORDED_LINE_BYTES;
@@ -34,8 +35,8 @@ const RECORDED_NAMES: [&str; 8] = [
 /// A line without a reading is `Bad` with the first cause that holds, in the order of [`LineWhy`].
 pub fn read_change(alloc: Global, schema: &Schema, bytes: &[u8]) -> Result<Recorded, LineError>
     ensures ok { IfOk result (λ recorded.
-        recorded_reading schema.now.tables bytes.now ≡ Ok recorded) }
-    ensures err { IfErr result (Refuses (recorded_reading schema.now.tables bytes.now)) }
+        recorded_line_reading schema.now.tables bytes.now ≡ Ok recorded) }
+    ensures err { IfErr result (Refuses cause_of (recorded_line_reading schema.now.tables bytes.now)) }
     ensures lawful { IfOk result (λ recorded. IsLawfulChange schema.now.tables recorded.change) }
 {
     read_in_turn(alloc, schema, bytes)
@@ -43,7 +44,7 @@ pub fn read_change(alloc: Global, schema: &Schema, bytes: &[u8]) -> Result<Recor
 
 fn read_in_turn(alloc: Global, schema: &Schema, bytes: &[u8]) -> Result<Recorded, LineError>
     ensures ok { IfOk result (λ recorded. recorded_in_turn schema.now.tables bytes.now ≡ Ok recorded) }
-    ensures err { IfErr result (Refuses (recorded_in_turn schema.now.tables bytes.now)) }
+    ensures err { IfErr result (Refuses cause_of (recorded_in_turn schema.now.tables bytes.now)) }
 {
     if bytes.len() > MAX_RECORDED_LINE_BYTES {
         return Err(LineError::Bad(LineWhy::TooLong));
@@ -57,9 +58,9 @@ fn read_in_turn(alloc: Global, schema: &Schema, bytes: &[u8]) -> Result<Recorded
 
 fn read_document(alloc: Global, schema: &Schema, line: &Json) -> Result<Recorded, LineError>
     ensures ok { IfOk result (λ recorded.
-        recorded_document_reading schema.now.tables (Some (view line.now)) ≡ Ok recorded) }
+        recorded_document_in_turn schema.now.tables (Some (view line.now)) ≡ Ok recorded) }
     ensures err { IfErr result
-        (Refuses (recorded_document_reading schema.now.tables (Some (view line.now)))) }
+        (Refuses cause_of (recorded_document_in_turn schema.now.tables (Some (view line.now)))) }
 {
     if !line.is_object() {
         return Err(LineError::Bad(LineWhy::NotJson));
@@ -73,9 +74,9 @@ fn read_document(alloc: Global, schema: &Schema, line: &Json) -> Result<Recorded
 #[tactic(auto, unfolding(crate::specs::RecordedLine::recorded_names))]
 fn read_recorded(alloc: Global, schema: &Schema, op: Op, line: &Json) -> Result<Recorded, LineError>
     ensures ok { IfOk result (λ recorded.
-        recorded_op_reading schema.now.tables (view line.now) (Some op) ≡ Ok recorded) }
+        recorded_op_in_turn schema.now.tables (view line.now) (Some op) ≡ Ok recorded) }
     ensures err { IfErr result
-        (Refuses (recorded_op_reading schema.now.tables (view line.now) (Some op))) }
+        (Refuses cause_of (recorded_op_in_turn schema.now.tables (view line.now) (Some op))) }
 {
     let placed = match table_of_line(schema, &RECORDED_NAMES, line) {
         Ok(placed) => placed,

@@ -1,8 +1,9 @@
-ghost use Rattle.std.specs.Prelude.{◌≡◌, option_map};
+ghost use Rattle.std.specs.Prelude.{◌≡◌};
 ghost use Rattle.serde_json.specs.View.{view};
-ghost use Rattle.voy_event.specs.Words.{change_op, event_kind, kind_of_text, number_at, op_of_text, role_at, role_of_text, text_at, text_of_role};
+ghost use Rattle.voy_event.specs.Words.{change_op, event_kind, kind_of_text, number_at, op_of_text, role_at, role_of_text, text_of_role};
 
 use serde_json::Value as Json;
+use voy_json::text_at;
 use voy_tables::Role;
 
 /// What a change line says was done to its row.
@@ -63,13 +64,6 @@ pub(crate) fn text_of_role(role: Role) -> &'static str
         Role::Source => "source_db_exporter",
         Role::Target => "target_db_exporter_fb",
     }
-}
-
-/// The string at this name of the line.
-pub(crate) fn text_at<'a>(line: &'a Json, name: &str) -> Option<&'a str>
-    ensures { option_map (λ text. text.now) result ≡ text_at name.now (view line.now) }
-{
-    line.get(name).and_then(Json::as_str)
 }
 
 /// The whole number at this name of the line, written without fraction and exponent.

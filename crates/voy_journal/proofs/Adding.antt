@@ -7,9 +7,10 @@ use Rattle.voy_disk.specs.Files.{Files, IfTold}
 use Rattle.voy_disk.specs.Images.{ImagesOf, SameBut}
 use Rattle.voy_disk.specs.Steps.{Follows, LeavesPrefix}
 use Rattle.voy_journal.specs.Blocks.{Appends, AppendsOrNot, IsBlock}
-use Rattle.voy_journal.specs.Journal.{AddsPayloads, KeepsOtherFiles, Stands, StandsAt, payloads_before, payloads_in}
+use Rattle.voy_journal.specs.Journal.{AddsPayloads, Stands, StandsAt, payloads_before, payloads_in}
 use Rattle.voy_journal.specs.JournalLaws.{stands_in_every, stands_known}
-use Rattle.voy_journal.proofs.Calls.{at_new}
+use Rattle.voy_disk.specs.Frames.{KeepsOtherFiles}
+use Rattle.voy_disk.specs.ChangeLaws.{at_new}
 
 -- the payloads of the files that are told
 known_files : (name : List ℕ) (gate : ℕ) (fs : Files) (payloads : List (List ℕ)) → StandsAt name gate payloads fs → IfTold (Some fs) (StandsAt name gate payloads)

@@ -8,15 +8,15 @@ use Rattle.voy_disk.specs.File.{settled, written}
 use Rattle.voy_disk.specs.FileLaws.{one_byte_changed, one_image, same_front}
 use Rattle.voy_disk.specs.Files.{Files, IfTold}
 use Rattle.voy_disk.specs.ImageLaws.{image_there}
-use Rattle.voy_disk.specs.Images.{ImagesOf, StepAt}
+use Rattle.voy_disk.specs.Images.{ImagesOf, StepAt, bytes_in}
 use Rattle.voy_disk.specs.Steps.{Every, Follows}
 use Rattle.voy_journal.specs.Appending.{entries_push, entries_push_length, fit_push}
 use Rattle.voy_journal.specs.Blocks.{HasEither, IsBlock}
 use Rattle.voy_journal.specs.Grammar.{Fit, Holds, entries, payloads_of}
 use Rattle.voy_journal.specs.GrammarLaws.{payloads_read}
-use Rattle.voy_journal.specs.Journal.{Stands, StandsAt, bytes_in, payloads_in}
-use Rattle.voy_journal.specs.Storing.{IsSafeFile, Rewrites}
-use Rattle.voy_journal.proofs.Calls.{at_new}
+use Rattle.voy_journal.specs.Journal.{Stands, StandsAt, payloads_in}
+use Rattle.voy_disk.specs.SafeFiles.{IsSafeFile, Rewrites}
+use Rattle.voy_disk.specs.ChangeLaws.{at_new}
 
 -- bytes that are the same up to a closed gate hold the same payloads
 front_holds : (payloads : List (List ℕ)) (bytes after : List ℕ) (gate n : ℕ) → Holds payloads bytes → length (entries payloads) ≡ gate

@@ -1,5 +1,5 @@
 pub mod Adding
-pub mod Calls
+pub mod ExactBytes
 pub mod Gates
 pub mod Progress
 pub mod Settling

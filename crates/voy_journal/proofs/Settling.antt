@@ -6,17 +6,19 @@ use Rattle.voy_disk.specs.Calls.{Change, Changes, Created, DoneOrNot, Leaves, Sa
 use Rattle.voy_disk.specs.File.{File, settled}
 use Rattle.voy_disk.specs.FileLaws.{one_image}
 use Rattle.voy_disk.specs.Files.{Files, IfTold, bytes_now}
-use Rattle.voy_disk.specs.ImageLaws.{create_follows, image_there}
-use Rattle.voy_disk.specs.Images.{Image, ImagesOf, Makes, StepAt}
+use Rattle.voy_disk.specs.ImageLaws.{file_same, image_there}
+use Rattle.voy_disk.specs.Images.{Image, ImagesOf, Makes, StepAt, bytes_in}
 use Rattle.voy_disk.specs.Steps.{Follows, Same}
 use Rattle.voy_disk.specs.StepLaws.{follows_weaker}
 use Rattle.voy_disk.specs.declared.disk.DiskError.{DiskError}
 use Rattle.voy_disk.specs.declared.disk.DiskError.TheVariants.{Failed, NoMemory}
 use Rattle.voy_journal.specs.Grammar.{payloads_of}
 use Rattle.voy_journal.specs.GrammarLaws.{payloads_read}
-use Rattle.voy_journal.specs.Journal.{KeepsOtherFiles, KeepsPayloads, StandsAt, bytes_in, payloads_in}
-use Rattle.voy_journal.specs.Storing.{Rewrites, Settles}
-use Rattle.voy_journal.proofs.Calls.{at_new, change_on, change_weaker, file_same, no_change}
+use Rattle.voy_journal.specs.Journal.{KeepsPayloads, StandsAt, payloads_in}
+use Rattle.voy_disk.specs.CallLaws.{create_follows}
+use Rattle.voy_disk.specs.Frames.{KeepsOtherFiles}
+use Rattle.voy_disk.specs.SafeFiles.{Rewrites, Settles}
+use Rattle.voy_disk.specs.ChangeLaws.{at_new, change_on, change_weaker, no_change}
 
 -- an empty file that was made has no payload, as the absent one
 keeps_making : (name : List ℕ) (i j : Image) → Same i j ⊎ Makes name i j → KeepsPayloads name i j
@@ -33,27 +35,6 @@ keeps_making name i j (inr makes) = record {
 pub created_keeps : {T : Type 0} (result : Result T DiskError) (name : List ℕ) (old new : Option Files)
     → Leaves result (Created name) (DoneOrNot (Created name)) old new → Follows (KeepsPayloads name) (ImagesOf old) (ImagesOf new)
 created_keeps result name old new created = follows_weaker (create_follows result name old new created) (keeps_making name)
-
-pub created_others : {T : Type 0} (result : Result T DiskError) (name : List ℕ) (old new : Option Files)
-    → Leaves result (Created name) (DoneOrNot (Created name)) old new → Change (KeepsOtherFiles name) old new
-created_others (Ok value) name old new created = change_weaker created (λ x y r. r.others)
-created_others (Err Failed) name old new created = change_weaker created (λ x y r. done_or_not x y r) where
-  done_or_not : (x y : Files) → DoneOrNot (Created name) x y → KeepsOtherFiles name x y
-  done_or_not x y (inl same) = λ other differs. ap (λ files. files other) same
-  done_or_not x y (inr made) = made.others
-created_others (Err NoMemory) name old new same = no_change (KeepsOtherFiles name) (λ x other differs. refl) old new same
-
-bytes_of : (found : Option File) → (or_empty found).now ≡ bytes_now found
-bytes_of None = refl
-bytes_of (Some file) = refl
-
--- a creation that answered Ok, and then a sync
-pub settles : {T : Type 0} (result : Result T DiskError) (name : List ℕ) (a b c : Option Files) → Change (Created name) a b
-    → Leaves result (Changes Synced name) (Changes SyncFailed name) b c → OnOk result (Change (Settles name) a c)
-settles (Err error) name a b c created synced = tt
-settles (Ok value) name a b c created synced = change_on created synced (λ x y z made sync.
-    let old : sync.before ≡ or_empty (x name) = file_same (sym sync.was ∙ made.is) in
-    sync.is ∙ ap Some (sync.step ∙ ap (λ (file : File). settled file.now) old ∙ ap settled (bytes_of (x name))))
 
 -- the file is safe, and has so many bytes
 pub record IsSettledTo (name : List ℕ) (end : ℕ) (files : Files) : Type 0 where

@@ -10,6 +10,10 @@ abbrev pub entries : List (List ℕ) → List ℕ
 entries [] = []
 entries (payload ∷ payloads) = 1 ∷ (to_be_bytes w32 (length payload) ++ (payload ++ entries payloads))
 
+-- the offset of the gate of the payload of this number, counted from 0; behind the last, of the closed gate
+abbrev pub gate_of : List (List ℕ) → ℕ → ℕ
+gate_of payloads n = length (entries (take n payloads))
+
 -- no payload is longer than a payload may be
 abbrev pub Fit : List (List ℕ) → Type 0
 Fit [] = Unit {0}

@@ -1,9 +1,9 @@
 -- What contracts see of a journal, and what it is on a disk.
-use Rattle.std.specs.Prelude.{◌≡◌, ◌≢◌, ℕ, Bool, List, [], ◌∷◌, ◌++◌, length, take, Option, Some, None}
+use Rattle.std.specs.Prelude.{◌≡◌, ℕ, Bool, List, [], ◌∷◌, ◌++◌, length, take, Option, Some, None}
 use Rattle.std.specs.Option.{option_map}
 use Rattle.voy_disk.specs.File.{settled}
 use Rattle.voy_disk.specs.Files.{Files, IfTold, bytes_now}
-use Rattle.voy_disk.specs.Images.{Image, SameBut}
+use Rattle.voy_disk.specs.Images.{Image, SameBut, bytes_in}
 use Rattle.voy_disk.specs.Steps.{Every}
 use Rattle.voy_journal.specs.Grammar.{Holds, entries, payloads_of}
 use Rattle.voy_journal.specs.declared.state.Journal.{Journal}
@@ -11,6 +11,10 @@ use Rattle.voy_journal.specs.declared.state.Journal.{Journal}
 -- the name of its file
 abbrev pub journal_name : Journal → List ℕ
 journal_name journal = journal.name
+
+-- the place of its closed gate
+abbrev pub journal_gate : Journal → ℕ
+journal_gate journal = journal.gate
 
 -- it may be appended to
 abbrev pub is_live : Journal → Bool
@@ -41,11 +45,6 @@ payloads_before name place (Some files) = payloads_of (take place (bytes_now (fi
 abbrev pub known_payloads : Journal → Option Files → Option (List (List ℕ))
 known_payloads journal files = payloads_before journal.name journal.gate files
 
--- the bytes of a file in an image; an absent file has none
-abbrev pub bytes_in : Option (List ℕ) → List ℕ
-bytes_in None = []
-bytes_in (Some bytes) = bytes
-
 -- the payloads of the journal of this name in an image of a disk, where they are whole
 abbrev pub payloads_in : List ℕ → Image → Option (List (List ℕ))
 payloads_in name image = payloads_of (bytes_in (image name))
@@ -63,7 +62,3 @@ pub record KeepsPayloads (name : List ℕ) (i j : Image) : Type 0 where
 pub record AddsPayloads (name : List ℕ) (added : List (List ℕ)) (i j : Image) : Type 0 where
   pub payloads : payloads_in name j ≡ option_map (λ payloads. payloads ++ added) (payloads_in name i)
   pub others : SameBut name i j
-
--- every other file reads as before and has the same images
-abbrev pub KeepsOtherFiles : List ℕ → Files → Files → Type 0
-KeepsOtherFiles name old new = (other : List ℕ) → other ≢ name → new other ≡ old other

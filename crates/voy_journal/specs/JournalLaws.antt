@@ -3,16 +3,18 @@ use Rattle.std.proofs.Common.{◌≡◌, inl, ℕ, List, [], ◌∷◌, ◌++◌
 use Rattle.std.proofs.lemmas.List.{take_at}
 use Rattle.std.specs.Option.{option_map}
 use Rattle.voy_disk.specs.Calls.{Change, told, untold}
+use Rattle.voy_disk.specs.ChangeLaws.{at_new}
 use Rattle.voy_disk.specs.File.{settled}
 use Rattle.voy_disk.specs.FileLaws.{one_image}
 use Rattle.voy_disk.specs.Files.{Files, IfTold, bytes_now}
+use Rattle.voy_disk.specs.Frames.{KeepsBeside}
 use Rattle.voy_disk.specs.ImageLaws.{image_there}
-use Rattle.voy_disk.specs.Images.{Image, ImagesOf}
+use Rattle.voy_disk.specs.Images.{Image, ImagesOf, bytes_in}
 use Rattle.voy_disk.specs.Steps.{Follows}
 use Rattle.voy_disk.specs.StepLaws.{every_along}
 use Rattle.voy_journal.specs.Grammar.{Fit, entries, payloads_of}
 use Rattle.voy_journal.specs.GrammarLaws.{payloads_read}
-use Rattle.voy_journal.specs.Journal.{AddsPayloads, HasJournal, KeepsPayloads, Stands, StandsAt, bytes_in}
+use Rattle.voy_journal.specs.Journal.{AddsPayloads, HasJournal, KeepsPayloads, Stands, StandsAt, payloads_before}
 
 -- where a journal stands, every image has its payloads
 pub stands_in_every : (files : Option Files) (name : List ℕ) (place : ℕ) (payloads : List (List ℕ)) → IfTold files (StandsAt name place payloads)
@@ -49,21 +51,34 @@ pub stands_known : (fs : Files) (name : List ℕ) (place : ℕ) (payloads : List
 stands_known fs name place payloads at =
     ap (λ front. payloads_of (front ++ 0 ∷ [])) (stands_front fs name place payloads at) ∙ closed_entries payloads at.holds.fit
 
--- a journal still stands where other files changed
-pub stands_beside : {R : Files → Files → Type 0} {old new : Option Files} (name : List ℕ) (place : ℕ) → Change R old new → ((x y : Files) → R x y → y name ≡ x name)
-    → IfTold old (Stands name place) → IfTold new (Stands name place)
-stands_beside name place untold same stands y is = cc
-stands_beside name place (told {old = x} {new = z} r) same stands y is =
-    let at = stands x refl in
-    let here : z ≡ y = cc in (
-      at.0,
-      record {
-        bytes = at.1.bytes;
-        file = ap (λ (files : Files). files name) (sym here) ∙ same x z r ∙ at.1.file;
-        holds = at.1.holds;
-        at = at.1.at;
-      },
-    )
+-- a journal whose file another call left still stands, with the same payloads
+pub stands_beside : (name : List ℕ) (place : ℕ) (payloads : List (List ℕ)) (among : List ℕ → Type 0) {old new : Option Files} → (among name → ⊥)
+    → Change (KeepsBeside among) old new → IfTold old (StandsAt name place payloads) → IfTold new (StandsAt name place payloads)
+stands_beside name place payloads among apart keeps stands y is =
+    let old = at_new keeps y is in
+    let at = stands old.0 old.1 in
+    record { bytes = at.bytes; file = old.2 name apart ∙ at.file; holds = at.holds; at = at.at }
+
+-- and so where its payloads are not named
+pub still_stands : (name : List ℕ) (place : ℕ) (among : List ℕ → Type 0) {old new : Option Files} → (among name → ⊥)
+    → Change (KeepsBeside among) old new → IfTold old (Stands name place) → IfTold new (Stands name place)
+still_stands name place among apart keeps stands y is =
+    let old = at_new keeps y is in
+    let at = stands old.0 old.1 in
+    (at.0, record { bytes = at.1.bytes; file = old.2 name apart ∙ at.1.file; holds = at.1.holds; at = at.1.at })
+
+-- it knows the same payloads
+pub known_beside : (name : List ℕ) (place : ℕ) (among : List ℕ → Type 0) {old new : Option Files} → (among name → ⊥)
+    → Change (KeepsBeside among) old new → payloads_before name place new ≡ payloads_before name place old
+known_beside name place among apart untold = refl
+known_beside name place among apart (told {old = x} {new = y} keeps) =
+    ap (λ found. payloads_of (take place (bytes_now found) ++ 0 ∷ [])) (keeps name apart)
+
+-- and has them in every image
+pub has_beside : (name : List ℕ) (payloads : List (List ℕ)) (among : List ℕ → Type 0) {old new : Image → Type 0} → (among name → ⊥)
+    → Follows (KeepsBeside among) old new → HasJournal name payloads old → HasJournal name payloads new
+has_beside name payloads among apart keeps has =
+    every_along has keeps (λ i j before step. ap (λ found. payloads_of (bytes_in found)) (step name apart) ∙ before)
 
 -- what a journal has in every image it still has where each image keeps its payloads
 pub has_still : (name : List ℕ) (payloads : List (List ℕ)) (old new : Image → Type 0) → HasJournal name payloads old → Follows (KeepsPayloads name) old new → HasJournal name payloads new

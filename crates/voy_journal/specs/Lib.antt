@@ -1,9 +1,12 @@
+pub mod AddingLaws
 pub mod Appending
 pub mod Blocks
 pub mod Errors
+pub mod Exact
 pub mod Grammar
 pub mod GrammarLaws
 pub mod Journal
 pub mod JournalLaws
 pub mod Reading
-pub mod Storing
+pub mod RefusalLaws
+pub mod Refusals

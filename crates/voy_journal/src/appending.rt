@@ -5,9 +5,11 @@ ghost use Rattle.voy_disk.specs.Faults.{HasCause};
 ghost use Rattle.voy_disk.specs.Files.{IfTold};
 ghost use Rattle.voy_disk.specs.Images.{ImagesOf, SameBut};
 ghost use Rattle.voy_disk.specs.Steps.{DoesAll, Follows, LeavesPrefix, StaysTold};
-ghost use Rattle.voy_journal.specs.Journal.{AddsPayloads, KeepsOtherFiles, Stands, StandsOn, is_live, journal_name, known_payloads};
+ghost use Rattle.voy_journal.specs.Journal.{AddsPayloads, Stands, StandsOn, is_live, journal_gate, journal_name, known_payloads};
 ghost use Rattle.voy_journal.specs.Blocks.{Appends, AppendsOrNot, IsBlock};
-ghost use Rattle.voy_journal.specs.Storing.{KeepsFront};
+ghost use Rattle.voy_disk.specs.Frames.{KeepsOtherFiles};
+ghost use Rattle.voy_disk.specs.SafeFiles.{KeepsFrontNow, Rewrites};
+ghost use Rattle.voy_journal.specs.Exact.{AppendsEntry};
 
 use crate::error::JournalError;
 use crate::limits::{BLOCK_BYTES, CLOSED_GATE, MAX_PAYLOAD_BYTES, OPEN_GATE};
@@ -30,6 +32,7 @@ impl Journal {
         // after Ok
         ensures all { DoesAll (AddsPayloads (journal_name self.old)) (payload.now ∷ []) result (ImagesOf (D.files disk.old)) (ImagesOf (D.files disk.new)) }
         ensures adds { OnOk result (known_payloads self.new (D.files disk.new) ≡ option_map (λ payloads. payloads ++ payload.now ∷ []) (known_payloads self.old (D.files disk.old))) }
+        ensures exact { OnOk result (Change (AppendsEntry (journal_name self.old) (journal_gate self.old) payload.now) (D.files disk.old) (D.files disk.new)) }
         ensures live { OnOk result (IsTrue (is_live self.new)) }
         // whatever it answers
         ensures prefix { LeavesPrefix (AddsPayloads (journal_name self.old)) (payload.now ∷ []) (ImagesOf (D.files disk.old)) (ImagesOf (D.files disk.new)) }
@@ -75,9 +78,10 @@ fn put_behind<D: Disk>(disk: &mut D, name: &Name, gate: u64, block: &[u8]) -> Re
     requires some { 0 < length block.now }
     ensures either { AppendsOrNot name.now gate block.now (D.files disk.old) (ImagesOf (D.files disk.new)) }
     ensures appends { OnOk result (Appends name.now gate block.now (D.files disk.old) (D.files disk.new)) }
+    ensures exact { OnOk result (Change (Rewrites name.now gate (1 ∷ block.now)) (D.files disk.old) (D.files disk.new)) }
     ensures fits { OnOk result (gate + length block.now + 1 < 2 ^ 63) }
     ensures same_but { Follows (SameBut name.now) (ImagesOf (D.files disk.old)) (ImagesOf (D.files disk.new)) }
-    ensures front { Change (KeepsFront name.now gate) (D.files disk.old) (D.files disk.new) }
+    ensures front { Change (KeepsFrontNow name.now gate) (D.files disk.old) (D.files disk.new) }
     ensures others { Change (KeepsOtherFiles name.now) (D.files disk.old) (D.files disk.new) }
     ensures cause { HasCause DiskError.Failed (D.faults disk.old) (D.faults disk.new) result }
     ensures lender { D.lender disk.new ≡ D.lender disk.old }

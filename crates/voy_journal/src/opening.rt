@@ -5,8 +5,10 @@ ghost use Rattle.voy_disk.specs.Files.{IfTold, bytes_now};
 ghost use Rattle.voy_disk.specs.Images.{ImagesOf};
 ghost use Rattle.voy_disk.specs.Steps.{Follows, StaysTold};
 ghost use Rattle.voy_journal.specs.Grammar.{DamagedAt, FitAFile, HasPayloads};
-ghost use Rattle.voy_journal.specs.Journal.{HasJournal, KeepsOtherFiles, KeepsPayloads, StandsAt, StandsOn, is_live, journal_name, known_payloads};
-ghost use Rattle.voy_journal.specs.Storing.{Settles};
+ghost use Rattle.voy_journal.specs.Journal.{HasJournal, KeepsPayloads, StandsAt, StandsOn, is_live, journal_name, known_payloads};
+ghost use Rattle.voy_disk.specs.Frames.{KeepsOtherFiles};
+ghost use Rattle.voy_disk.specs.SafeFiles.{KeepsBytesNow, Settles};
+ghost use Rattle.voy_journal.specs.Exact.{OpensFile, ReadsAsBefore};
 
 use crate::error::JournalError;
 use crate::limits::CLOSED_GATE;
@@ -22,9 +24,9 @@ impl Journal {
     /// Opens the journal with this name, and makes it where there is no such file or one of at most one
     /// byte. The file is synced before any gate is believed.
     ///
-    /// After Ok nothing of the file is touched. Whatever the answer, a stop leaves the payloads that it
-    /// would have left before. `Damaged` has the offset of the first open gate that has no whole payload
-    /// and next gate behind it. `TooLong` is never answered.
+    /// After Ok nothing of the file is touched. Whatever the answer, a file of more than one byte reads as
+    /// before, and a stop leaves the payloads that it would have left before. `Damaged` has the offset of the
+    /// first open gate that has no whole payload and next gate behind it. `TooLong` is never answered.
     pub fn open<D: Disk>(alloc: Global, disk: &mut D, name: Name) -> Result<Opened, JournalError>
         // the payloads are those that the file's bytes have at entry, and every image has just these
         ensures payloads { IfOk result (λ opened. IfTold (D.files disk.old) (λ fs. HasPayloads opened.payloads (bytes_now (fs name)))) }
@@ -35,8 +37,11 @@ impl Journal {
         ensures name { IfOk result (λ opened. journal_name opened.journal ≡ name) }
         // on any disk, also one that tells nothing
         ensures fits { IfOk result (λ opened. FitAFile opened.payloads) }
+        // the bytes are those that were there, or one gate of 0 in place of at most one byte
+        ensures exact { OnOk result (Change (OpensFile name) (D.files disk.old) (D.files disk.new)) }
         // whatever it answers
         ensures images { Follows (KeepsPayloads name) (ImagesOf (D.files disk.old)) (ImagesOf (D.files disk.new)) }
+        ensures bytes { Change (ReadsAsBefore name) (D.files disk.old) (D.files disk.new) }
         ensures others { Change (KeepsOtherFiles name) (D.files disk.old) (D.files disk.new) }
         ensures told { StaysTold (ImagesOf (D.files disk.old)) (ImagesOf (D.files disk.new)) }
         ensures lender { D.lender disk.new ≡ D.lender disk.old }
@@ -62,6 +67,8 @@ fn settle_and_read<D: Disk>(alloc: Global, disk: &mut D, name: &Name) -> Result<
     ensures stands { IfOk result (λ found. IfTold (D.files disk.new) (StandsAt name.now found.gate found.payloads)) }
     ensures place { IfOk result (λ found. found.gate + 1 < 2 ^ 63) }
     ensures fits { IfOk result (λ found. FitAFile found.payloads) }
+    ensures exact { OnOk result (Change (OpensFile name.now) (D.files disk.old) (D.files disk.new)) }
+    ensures bytes { Change (ReadsAsBefore name.now) (D.files disk.old) (D.files disk.new) }
     ensures images { Follows (KeepsPayloads name.now) (ImagesOf (D.files disk.old)) (ImagesOf (D.files disk.new)) }
     ensures others { Change (KeepsOtherFiles name.now) (D.files disk.old) (D.files disk.new) }
     ensures lender { D.lender disk.new ≡ D.lender disk.old }
@@ -83,6 +90,7 @@ fn settle_and_read<D: Disk>(alloc: Global, disk: &mut D, name: &Name) -> Result<
 // Makes the file where it is absent, and all its bytes safe. Its length.
 fn settle<D: Disk>(disk: &mut D, name: &Name) -> Result<u64, DiskError>
     ensures settles { OnOk result (Change (Settles name.now) (D.files disk.old) (D.files disk.new)) }
+    ensures reads { Change (KeepsBytesNow name.now) (D.files disk.old) (D.files disk.new) }
     ensures length { IfOk result (λ end. IfTold (D.files disk.old) (λ fs. end ≡ length (bytes_now (fs name.now)))) }
     ensures short { IfOk result (λ end. end < 2 ^ 63) }
     ensures images { Follows (KeepsPayloads name.now) (ImagesOf (D.files disk.old)) (ImagesOf (D.files disk.new)) }
@@ -98,6 +106,7 @@ fn settle<D: Disk>(disk: &mut D, name: &Name) -> Result<u64, DiskError>
 // Makes the file where it is absent, and all its bytes safe.
 fn make_safe<D: Disk>(disk: &mut D, name: &Name) -> Result<(), DiskError>
     ensures settles { OnOk result (Change (Settles name.now) (D.files disk.old) (D.files disk.new)) }
+    ensures reads { Change (KeepsBytesNow name.now) (D.files disk.old) (D.files disk.new) }
     ensures images { Follows (KeepsPayloads name.now) (ImagesOf (D.files disk.old)) (ImagesOf (D.files disk.new)) }
     ensures others { Change (KeepsOtherFiles name.now) (D.files disk.old) (D.files disk.new) }
     ensures lender { D.lender disk.new ≡ D.lender disk.old }

@@ -4,8 +4,8 @@ ghost use Rattle.voy_disk.specs.Faults.{HasCause};
 ghost use Rattle.voy_disk.specs.Files.{IfTold};
 ghost use Rattle.voy_disk.specs.Images.{ImagesOf, StepAt};
 ghost use Rattle.voy_disk.specs.Steps.{Follows};
-ghost use Rattle.voy_journal.specs.Journal.{KeepsOtherFiles};
-ghost use Rattle.voy_journal.specs.Storing.{IsSafeFile, KeepsFront, Rewrites};
+ghost use Rattle.voy_disk.specs.Frames.{KeepsOtherFiles};
+ghost use Rattle.voy_disk.specs.SafeFiles.{IsSafeFile, KeepsFrontNow, Rewrites};
 
 use voy_disk::{Disk, DiskError, Name};
 
@@ -23,7 +23,7 @@ pub(crate) fn write_safely<D: Disk>(
     ensures rewrites { OnOk result (Change (Rewrites name.now at bytes.now) (D.files disk.old) (D.files disk.new)) }
     ensures fits { OnOk result (at + length bytes.now < 2 ^ 63) }
     ensures images { Follows (StepAt name.now (SameOutside at (length bytes.now))) (ImagesOf (D.files disk.old)) (ImagesOf (D.files disk.new)) }
-    ensures front { Change (KeepsFront name.now at) (D.files disk.old) (D.files disk.new) }
+    ensures front { Change (KeepsFrontNow name.now at) (D.files disk.old) (D.files disk.new) }
     ensures others { Change (KeepsOtherFiles name.now) (D.files disk.old) (D.files disk.new) }
     ensures cause { HasCause DiskError.Failed (D.faults disk.old) (D.faults disk.new) result }
     ensures lender { D.lender disk.new ≡ D.lender disk.old }

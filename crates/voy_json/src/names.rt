@@ -1,8 +1,8 @@
-ghost use Rattle.std.specs.Prelude.{◌≡◌, map};
+ghost use Rattle.std.specs.Prelude.{◌≡◌, map, option_map};
 ghost use Rattle.std.specs.List.{list_any};
 ghost use Rattle.std.specs.Str.{bytes_eq};
 ghost use Rattle.serde_json.specs.View.{view};
-ghost use Rattle.voy_json.specs.Document.{has_names, has_only_names};
+ghost use Rattle.voy_json.specs.Document.{has_names, has_only_names, text_at};
 
 use serde_json::Value;
 
@@ -21,6 +21,13 @@ pub fn has_only(value: &Value, names: &[&str]) -> bool
         Some(members) => members.keys().all(|key| is_one_of(key.as_str(), names)),
         None => true,
     }
+}
+
+/// The string under this name of an object. `None` where there is none, or something else.
+pub fn text_at<'a>(value: &'a Value, name: &str) -> Option<&'a str>
+    ensures { option_map (λ text. text.now) result ≡ text_at name.now (view value.now) }
+{
+    value.get(name).and_then(Value::as_str)
 }
 
 fn is_one_of(name: &str, names: &[&str]) -> bool

@@ -5,22 +5,18 @@ use Rattle.std.proofs.lemmas.List.{take_more}
 use Rattle.voy_schema.specs.declared.table.Table.{Table}
 use Rattle.voy_schema.specs.declared.value.Value.{Value}
 use Rattle.voy_tables.specs.Lists.{rows_in}
-use Rattle.voy_tables.specs.RowText.{row_line}
+use Rattle.voy_tables.specs.RowText.{row_line, row_lines}
+use Rattle.voy_tables.specs.RowTextLaws.{row_lines-append}
 use Rattle.voy_tables.specs.Standing.{are_tables, is_table}
-use Rattle.voy_report.specs.Show.{Appends, rows_text, table_text, tables_text}
-
--- the texts of some rows, and then those of others
-pub rows_text-append : (a b : List (List Value)) → rows_text (a ++ b) ≡ rows_text a ++ rows_text b
-rows_text-append [] b = refl
-rows_text-append (row ∷ a) b = ap (λ rest. row_line row ++ rest) (rows_text-append a b) ∙ sym (append_assoc (row_line row) (rows_text a) (rows_text b))
+use Rattle.voy_report.specs.Show.{Appends, table_text, tables_text}
 
 -- the texts of one row more
-pub rows_text_more : (rows : List (List Value)) (i : ℕ) (row : List Value) → i < length rows → row ≡ get_or rows i row
-    → rows_text (take (i + 1) rows) ≡ rows_text (take i rows) ++ row_line row
-rows_text_more rows i row within is =
-    ap rows_text (take_more rows i row within ∙ ap (λ r. take i rows ++ (r ∷ [])) (sym is))
-    ∙ rows_text-append (take i rows) (row ∷ [])
-    ∙ ap (λ t. rows_text (take i rows) ++ t) (append-nil (row_line row))
+pub row_lines_more : (rows : List (List Value)) (i : ℕ) (row : List Value) → i < length rows → row ≡ get_or rows i row
+    → row_lines (take (i + 1) rows) ≡ row_lines (take i rows) ++ row_line row
+row_lines_more rows i row within is =
+    ap row_lines (take_more rows i row within ∙ ap (λ r. take i rows ++ (r ∷ [])) (sym is))
+    ∙ row_lines-append (take i rows) (row ∷ [])
+    ∙ ap (λ t. row_lines (take i rows) ++ t) (append-nil (row_line row))
 
 -- the part of the table at this place stands in front of those behind it
 pub tables_text_turn : (schema : List Table) (lists : List (List (List Value))) (n : ℕ) (t : Table) → are_tables schema lists ≡ true

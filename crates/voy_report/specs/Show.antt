@@ -2,12 +2,7 @@
 use Rattle.std.specs.Prelude.{◌≡◌, ℕ, List, [], ◌∷◌, ◌++◌, codes, decimal, length}
 use Rattle.voy_schema.specs.declared.table.Table.{Table}
 use Rattle.voy_schema.specs.declared.value.Value.{Value}
-use Rattle.voy_tables.specs.RowText.{row_line}
-
--- the texts of these rows, one after the other
-abbrev pub rows_text : List (List Value) → List ℕ
-rows_text [] = []
-rows_text (row ∷ rows) = row_line row ++ rows_text rows
+use Rattle.voy_tables.specs.RowText.{row_lines}
 
 -- `<schema>.<table> <rows>`
 unfoldable pub table_line : Table → ℕ → List ℕ
@@ -15,7 +10,7 @@ table_line t rows = t.schema_name ++ codes "." ++ t.table_name ++ codes " " ++ d
 
 -- the line with a table's name and its number of rows, and then the texts of its rows
 abbrev pub table_text : Table → List (List Value) → List ℕ
-table_text t rows = table_line t (length rows) ++ rows_text rows
+table_text t rows = table_line t (length rows) ++ row_lines rows
 
 -- the parts of all tables, in the order of the schema
 abbrev pub tables_text : List Table → List (List (List Value)) → List ℕ

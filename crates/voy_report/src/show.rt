@@ -1,5 +1,6 @@
 ghost use Rattle.std.specs.Prelude.{◌≡◌, ◌++◌, OnOk, OnErr};
-ghost use Rattle.voy_report.specs.Show.{Appends, rows_text, table_line, table_text};
+ghost use Rattle.voy_report.specs.Show.{Appends, table_line, table_text};
+ghost use Rattle.voy_tables.specs.RowText.{row_lines};
 
 use itoa::Buffer;
 use std::alloc::{AllocError, Global};
@@ -56,7 +57,7 @@ fn append_line(table: &Table, rows: usize, to: &mut Bytes) -> Result<(), AllocEr
 }
 
 fn append_rows(alloc: Global, rows: &[Row], to: &mut Bytes) -> Result<(), AllocError>
-    ensures ok { OnOk result (to.new ≡ to.old ++ rows_text rows.now) }
+    ensures ok { OnOk result (to.new ≡ to.old ++ row_lines rows.now) }
     ensures more { Appends to.old to.new }
 {
     for row in rows {

@@ -11,7 +11,7 @@ use Rattle.std.proofs.lemmas.Slice.Eq.{bytes_eq-Decides}
 use Rattle.serde_json.specs.Data.{Data, Items, no_items, item}
 use Rattle.serde_json.specs.Events.{items_len}
 use Rattle.voy_schema.specs.Lawful.{has_same_names, is_distinct, is_lawful, is_lawful_key, is_lawful_table, is_name, is_named}
-use Rattle.voy_schema.specs.Reading.{broken_rule, column_of, document_reading, has_known_columns, has_lawful_count, has_lawful_counts, has_lawful_names, has_no_repeat, has_whole_keys, is_column, items_reading, names_of, place_in, places_of, schema_reading, stated_items, table_of, table_reading, tables_reading, unique_key_of, unless, with_table}
+use Rattle.voy_schema.specs.Reading.{broken_rule, column_of, tables_of_document, has_known_columns, has_lawful_count, has_lawful_counts, has_lawful_names, has_no_repeat, has_whole_keys, is_column, items_reading, names_of, place_in, places_of, schema_reading, stated_items, table_stated, table_or_why, tables_reading, unique_key_of, unless, with_table}
 use Rattle.voy_schema.specs.Stated.{stated_table}
 use Rattle.voy_schema.specs.declared.stated.StatedColumn.{StatedColumn}
 use Rattle.voy_schema.specs.declared.stated.StatedKey.{StatedKey}
@@ -118,7 +118,7 @@ lawful_keys columns (k ∷ keys) whole known distinct =
 
 -- ---- tables
 
-lawful_table : (earlier : List Table) (s : StatedTable) → Unbroken earlier s → is_lawful_table (table_of s) ≡ true
+lawful_table : (earlier : List Table) (s : StatedTable) → Unbroken earlier s → is_lawful_table (table_stated s) ≡ true
 lawful_table earlier s held =
     let counts = and_parts _ _ held.counts in
     let columns = and_parts _ _ counts.0 in
@@ -160,25 +160,25 @@ record AreLawful (n : ℕ) (tables : List Table) : Type 0 where
   distinct : is_distinct has_same_names tables ≡ true
   counted : length tables ≡ n
 
-one_more : (n : ℕ) (earlier : List Table) (s : StatedTable) → AreLawful n earlier → broken_rule earlier s ≡ None → AreLawful (n + 1) (earlier ++ table_of s ∷ [])
+one_more : (n : ℕ) (earlier : List Table) (s : StatedTable) → AreLawful n earlier → broken_rule earlier s ≡ None → AreLawful (n + 1) (earlier ++ table_stated s ∷ [])
 one_more n earlier s held none =
     let kept = unbroken earlier s none in
     record {
-      lawful = list_all-append is_lawful_table earlier (table_of s ∷ []) ∙ and_from _ _ held.lawful (and_from _ _ (lawful_table earlier s kept) refl);
-      distinct = is_distinct-push earlier (table_of s) held.distinct (new_names earlier s kept);
+      lawful = list_all-append is_lawful_table earlier (table_stated s ∷ []) ∙ and_from _ _ held.lawful (and_from _ _ (lawful_table earlier s kept) refl);
+      distinct = is_distinct-push earlier (table_stated s) held.distinct (new_names earlier s kept);
       counted = simp length-append (omega arith);
     }
 
 -- the tables behind those so far, where those behind one more are known
 next_lawful : (n : ℕ) (earlier tables : List Table) (o : Option StatedTable) (ds : Items) → AreLawful n earlier
     → ((more : List Table) → AreLawful (n + 1) more → tables_reading (Ok more) ds ≡ Ok tables → AreLawful (n + 1 + items_len ds) tables)
-    → tables_reading (with_table earlier (table_reading earlier o)) ds ≡ Ok tables → AreLawful (n + 1 + items_len ds) tables
+    → tables_reading (with_table earlier (table_or_why earlier o)) ds ≡ Ok tables → AreLawful (n + 1 + items_len ds) tables
 next_lawful n earlier tables None ds held behind reads = cc
 next_lawful n earlier tables (Some s) ds held behind reads = by_rule (broken_rule earlier s) refl reads where
-  by_rule : (o : Option SchemaWhy) → broken_rule earlier s ≡ o → tables_reading (with_table earlier (unless o (table_of s))) ds ≡ Ok tables
+  by_rule : (o : Option SchemaWhy) → broken_rule earlier s ≡ o → tables_reading (with_table earlier (unless o (table_stated s))) ds ≡ Ok tables
       → AreLawful (n + 1 + items_len ds) tables
   by_rule (Some w) is refused = cc
-  by_rule None is found = behind (earlier ++ table_of s ∷ []) (one_more n earlier s held is) found
+  by_rule None is found = behind (earlier ++ table_stated s ∷ []) (one_more n earlier s held is) found
 
 all_lawful : (n : ℕ) (earlier tables : List Table) (items : Items) → AreLawful n earlier → tables_reading (Ok earlier) items ≡ Ok tables → AreLawful (n + items_len items) tables
 all_lawful n earlier tables no_items held reads =
@@ -200,7 +200,7 @@ of_items (Some items) tables reads = by_count (has_lawful_count items) refl read
       let most = le-leb (length tables) 256 (omega (arith, leb-true _ _ counts.1)) in
       and_from _ _ (and_from _ _ (and_from _ _ least most) held.lawful) held.distinct
 
-of_document : (d : Option Data) (tables : List Table) → document_reading d ≡ Ok tables → is_lawful tables ≡ true
+of_document : (d : Option Data) (tables : List Table) → tables_of_document d ≡ Ok tables → is_lawful tables ≡ true
 of_document None tables reads = cc
 of_document (Some d) tables reads = of_items (stated_items d) tables reads
 

@@ -3,8 +3,11 @@ pub mod Values
 pub mod Rows
 pub mod Lending
 pub mod LawfulLaws
+pub mod Parts
+pub mod Refusal
 pub mod Stated
 pub mod Reading
 pub mod TextLaws
 pub mod Abbreviations
 pub mod AbbreviationLaws
+pub mod EqualLaws

@@ -93,11 +93,11 @@ abbrev pub places_of : List StatedColumn → List (List ℕ) → List ℕ
 places_of columns key = map (place_in columns) key
 
 abbrev pub unique_key_of : List StatedColumn → StatedKey → UniqueKey
-unique_key_of columns k = record { columns = places_of columns k.columns }
+unique_key_of columns k = record { columns = places_of columns k.columns; nulls_not_distinct = k.nulls_not_distinct }
 
 -- the table that is stated, its keys by the places of their columns
-abbrev pub table_of : StatedTable → Table
-table_of s = record {
+abbrev pub table_stated : StatedTable → Table
+table_stated s = record {
   schema_name = s.schema_name;
   table_name = s.table_name;
   columns = map column_of s.columns;
@@ -122,9 +122,9 @@ unless (Some w) x = Err w
 unless None x = Ok x
 
 -- a table behind these ones, or the first rule that it breaks
-abbrev pub table_reading : List Table → Option StatedTable → Result Table SchemaWhy
-table_reading earlier None = Err why.Shape
-table_reading earlier (Some s) = unless (broken_rule earlier s) (table_of s)
+abbrev pub table_or_why : List Table → Option StatedTable → Result Table SchemaWhy
+table_or_why earlier None = Err why.Shape
+table_or_why earlier (Some s) = unless (broken_rule earlier s) (table_stated s)
 
 -- the tables so far with one more, or the number of the one that breaks a rule, from 1
 abbrev pub with_table : List Table → Result Table SchemaWhy → Result (List Table) (ℕ × SchemaWhy)
@@ -135,7 +135,7 @@ with_table earlier (Err w) = Err (length earlier + 1, w)
 abbrev pub tables_reading : Result (List Table) (ℕ × SchemaWhy) → Items → Result (List Table) (ℕ × SchemaWhy)
 tables_reading (Err refusal) ds = Err refusal
 tables_reading (Ok earlier) no_items = Ok earlier
-tables_reading (Ok earlier) (item d ds) = tables_reading (with_table earlier (table_reading earlier (stated_table d))) ds
+tables_reading (Ok earlier) (item d ds) = tables_reading (with_table earlier (table_or_why earlier (stated_table d))) ds
 
 unfoldable pub document_names : List (List ℕ)
 document_names = codes "tables" ∷ []
@@ -154,15 +154,15 @@ items_reading None = Err (0, why.Shape)
 items_reading (Some items) =
     if not (has_lawful_count items) then Err (0, why.TooMany) else tables_reading (Ok []) items
 
-abbrev pub document_reading : Option Data → Result (List Table) (ℕ × SchemaWhy)
-document_reading None = Err (0, why.NotJson)
-document_reading (Some d) = items_reading (stated_items d)
+abbrev pub tables_of_document : Option Data → Result (List Table) (ℕ × SchemaWhy)
+tables_of_document None = Err (0, why.NotJson)
+tables_of_document (Some d) = items_reading (stated_items d)
 
 -- the tables that the bytes state, or the first that breaks a rule and its first such rule
 unfoldable pub schema_reading : List ℕ → Result (List Table) (ℕ × SchemaWhy)
-schema_reading bytes = document_reading (data_of_bytes bytes)
+schema_reading bytes = tables_of_document (data_of_bytes bytes)
 
--- a refusal names the first table that breaks a rule, and its first such rule, or memory was not found
-abbrev pub RefusesTables : Result (List Table) (ℕ × SchemaWhy) → SchemaError → Type 0
-RefusesTables reading (Bad table w) = reading ≡ Err (table, w)
-RefusesTables reading NoMemory = Unit {0}
+-- the table that an error names, and the rule that it breaks; none for want of memory
+abbrev pub cause_of : SchemaError → Option (ℕ × SchemaWhy)
+cause_of (Bad table w) = Some (table, w)
+cause_of NoMemory = None

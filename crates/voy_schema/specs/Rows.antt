@@ -48,13 +48,9 @@ is_lawful_row t row = has_lawful_values t.columns row && has_whole_key t row
 abbrev pub key_of : Table → List Value → List (List ℕ)
 key_of t row = map text_of (values_at row t.primary_key)
 
--- whether NULLs of this unique key equal one another: not so, as PostgreSQL has it by default
-abbrev pub takes_nulls_as_equal : UniqueKey → Bool
-takes_nulls_as_equal key = false
-
--- a tuple counts where NULLs are equal for its key, or it has none
+-- a tuple counts where NULLs are not distinct for its key, or it has none
 abbrev pub counts : UniqueKey → List Value → Bool
-counts key values = takes_nulls_as_equal key || list_all (λ v. not (is_null v)) values
+counts key values = key.nulls_not_distinct || list_all (λ v. not (is_null v)) values
 
 -- the counting tuple of a row for a unique key, where there is such a row and its tuple counts
 abbrev pub counting_tuple : UniqueKey → Option (List Value) → Option (List Value)

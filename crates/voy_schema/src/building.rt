@@ -1,7 +1,7 @@
 ghost use Rattle.std.specs.Prelude.{◌≡◌, ◌≤◌, true, is_some, length, map, IfOk};
 ghost use Rattle.std.specs.List.{list_all, position};
 ghost use Rattle.std.specs.Str.{bytes_eq};
-ghost use Rattle.voy_schema.specs.Reading.{column_of, has_known_columns, has_known_types, is_column, kind_named, names_of, places_of, table_of, unique_key_of};
+ghost use Rattle.voy_schema.specs.Reading.{column_of, has_known_columns, has_known_types, is_column, kind_named, names_of, places_of, table_stated, unique_key_of};
 ghost use Rattle.voy_schema.specs.declared.stated.StatedColumn.{StatedColumn};
 ghost use Rattle.voy_schema.specs.declared.stated.StatedKey.{StatedKey};
 
@@ -15,11 +15,11 @@ use crate::text::Text;
 use std::alloc::{AllocError, Global};
 
 /// The table that is stated, its keys by the places of their columns.
-pub fn table_of(alloc: Global, stated: StatedTable) -> Result<Table, AllocError>
+pub fn table_stated(alloc: Global, stated: StatedTable) -> Result<Table, AllocError>
     requires counted { length stated.columns ≤ MAX_COLUMNS }
     requires typed { has_known_types stated ≡ true }
     requires keyed { has_known_columns stated ≡ true }
-    ensures { IfOk result (λ table. table ≡ table_of stated) }
+    ensures { IfOk result (λ table. table ≡ table_stated stated) }
 {
     let columns = columns_of(alloc, stated.columns.as_slice())?;
     let among = stated.columns.as_slice();
@@ -64,7 +64,10 @@ fn unique_keys_of(
     let mut found = Items::new(alloc);
     for key in keys {
         let columns = places_of(alloc, columns, key.columns.as_slice())?;
-        found.push(UniqueKey { columns })?;
+        found.push(UniqueKey {
+            columns,
+            nulls_not_distinct: key.nulls_not_distinct,
+        })?;
     }
     Ok(found)
 }

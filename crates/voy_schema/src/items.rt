@@ -3,7 +3,7 @@ ghost use Rattle.std.specs.Option.{option_copied};
 ghost use Rattle.std.specs.Borrow.{sem};
 ghost use Rattle.voy_schema.specs.Lending.{LendsItem};
 
-use crate::copying::{Copies, Same};
+use crate::copying::Copies;
 use std::alloc::{AllocError, Global};
 use std::marker::Model;
 
@@ -161,21 +161,5 @@ impl<T: Copies + Drop> Copies for Items<T> {
             copied.push(item.copy()?)?;
         }
         Ok(Items { items: copied })
-    }
-}
-
-impl<T: Same> Same for Items<T> {
-    fn same(&self, other: &Self) -> bool {
-        let a = self.items.as_slice();
-        let b = other.items.as_slice();
-        if a.len() != b.len() {
-            return false;
-        }
-        for i in 0..a.len() {
-            if !a[i].same(&b[i]) {
-                return false;
-            }
-        }
-        true
     }
 }

@@ -2,13 +2,14 @@ ghost use Rattle.std.specs.Prelude.{◌≡◌, map, Option, IfOk, option_map, op
 ghost use Rattle.serde_json.specs.Data.{Data};
 ghost use Rattle.serde_json.specs.Find.{as_array, as_str, get};
 ghost use Rattle.serde_json.specs.View.{view, items_view};
-ghost use Rattle.voy_json.specs.Document.{is_object};
-ghost use Rattle.voy_schema.specs.Stated.{each, is_exact, list_at, text_at};
+ghost use Rattle.voy_json.specs.Document.{is_object, text_at};
+ghost use Rattle.voy_schema.specs.Stated.{each, flag_at, has_shape, is_exact, list_at};
 
 use crate::items::Items;
 use crate::text::Text;
 use serde_json::Value;
 use std::alloc::{AllocError, Global};
+use voy_json::text_at;
 
 /// What an item of a list in a JSON document states.
 pub trait FromJson {
@@ -37,12 +38,30 @@ pub fn is_exact(value: &Value, names: &[&str]) -> bool
     value.is_object() && voy_json::has_all(value, names) && voy_json::has_only(value, names)
 }
 
-/// The string under this name of an object. `None` where there is none, or something else.
-pub fn text_at(alloc: Global, value: &Value, name: &str) -> Result<Option<Text>, AllocError>
-    ensures { IfOk result (λ found. found ≡ text_at name.now (view value.now)) }
+/// Whether `value` is an object with each name of `needed`, and none but those of `known`.
+pub fn has_shape(value: &Value, needed: &[&str], known: &[&str]) -> bool
+    ensures { result ≡ has_shape (map (λ name. name.now) needed.now) (map (λ name. name.now) known.now) (view value.now) }
+{
+    value.is_object() && voy_json::has_all(value, needed) && voy_json::has_only(value, known)
+}
+
+/// The truth value under this name of an object, false where there is none. `None` where it is something
+/// else.
+pub fn flag_at(value: &Value, name: &str) -> Option<bool>
+    ensures { result ≡ flag_at name.now (view value.now) }
 {
     match value.get(name) {
-        Some(member) => Text::from_json(alloc, member),
+        Some(member) => member.as_bool(),
+        None => Some(false),
+    }
+}
+
+/// A copy of the string under this name of an object. `None` where there is none, or something else.
+pub fn copied_text_at(alloc: Global, value: &Value, name: &str) -> Result<Option<Text>, AllocError>
+    ensures { IfOk result (λ found. found ≡ text_at name.now (view value.now)) }
+{
+    match text_at(value, name) {
+        Some(text) => Ok(Some(Text::from_str(alloc, text)?)),
         None => Ok(None),
     }
 }

@@ -15,11 +15,9 @@
 mod abbreviating;
 mod building;
 mod copying;
-mod distinct;
 mod items;
 mod json;
 mod kinds;
-mod lawful;
 mod limits;
 mod names;
 mod numbers;
@@ -36,11 +34,11 @@ mod value;
 mod why;
 
 pub use abbreviating::Abbreviate;
-pub use copying::{Copies, Same};
+pub use copying::Copies;
 pub use items::Items;
 pub use kinds::check_value;
 pub use limits::{MAX_COLUMNS, MAX_NAME_BYTES, MAX_TABLES, MAX_UNIQUE_KEYS};
-pub use rows::{has_whole_key, is_lawful_row, is_lawful_value};
+pub use rows::{has_no_null, has_whole_key, is_lawful_row, is_lawful_value};
 pub use schema::Schema;
 pub use table::{Column, Columns, Kind, Places, Table, Tables, UniqueKey, UniqueKeys};
 pub use text::Text;

@@ -1,4 +1,4 @@
-use crate::copying::{Copies, Same};
+use crate::copying::Copies;
 use std::alloc::AllocError;
 
 impl Copies for u8 {
@@ -7,20 +7,8 @@ impl Copies for u8 {
     }
 }
 
-impl Same for u8 {
-    fn same(&self, other: &Self) -> bool {
-        *self == *other
-    }
-}
-
 impl Copies for u32 {
     fn copy(&self) -> Result<Self, AllocError> {
         Ok(*self)
-    }
-}
-
-impl Same for u32 {
-    fn same(&self, other: &Self) -> bool {
-        *self == *other
     }
 }

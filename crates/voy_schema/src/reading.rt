@@ -1,11 +1,12 @@
 ghost use Rattle.std.specs.Prelude.{◌≡◌, ◌≤◌, [], length, option_map, IfOk, IfErr};
 ghost use Rattle.std.specs.Bool.{OnTrue};
 ghost use Rattle.serde_json.specs.View.{view, items_view};
-ghost use Rattle.voy_schema.specs.Reading.{RefusesTables, has_lawful_count, items_reading, schema_reading, stated_items, table_reading, tables_reading};
+ghost use Rattle.voy_schema.specs.Reading.{cause_of, has_lawful_count, items_reading, schema_reading, stated_items, table_or_why, tables_reading};
+ghost use Rattle.voy_schema.specs.Refusal.{Refuses};
 ghost use Rattle.voy_schema.specs.Stated.{stated_table};
 ghost use Rattle.voy_schema.specs.declared.why.SchemaError.TheVariants.{Bad};
 
-use crate::building::table_of;
+use crate::building::table_stated;
 use crate::items::Items;
 use crate::json::{FromJson, is_exact};
 use crate::limits::MAX_TABLES;
@@ -26,7 +27,7 @@ const DOCUMENT_NAMES: [&str; 1] = ["tables"];
 #[tactic(auto, unfolding(crate::specs::Reading::schema_reading))]
 pub fn read_schema(alloc: Global, bytes: &[u8]) -> Result<Tables, SchemaError>
     ensures ok { IfOk result (λ tables. schema_reading bytes.now ≡ Ok tables) }
-    ensures err { IfErr result (RefusesTables (schema_reading bytes.now)) }
+    ensures err { IfErr result (Refuses cause_of (schema_reading bytes.now)) }
 {
     match voy_json::parse(alloc, bytes) {
         Ok(document) => read_items(alloc, stated_items(&document)),
@@ -55,7 +56,7 @@ fn stated_items(document: &Value) -> Option<&[Value]>
 
 fn read_items(alloc: Global, items: Option<&[Value]>) -> Result<Tables, SchemaError>
     ensures ok { IfOk result (λ tables. items_reading (option_map (λ items. items_view items.now) items.entry) ≡ Ok tables) }
-    ensures err { IfErr result (RefusesTables (items_reading (option_map (λ items. items_view items.now) items.entry))) }
+    ensures err { IfErr result (Refuses cause_of (items_reading (option_map (λ items. items_view items.now) items.entry))) }
 {
     let Some(items) = items else {
         return Err(of_document(SchemaWhy::Shape));
@@ -76,7 +77,7 @@ fn has_lawful_count(items: &[Value]) -> bool
 fn read_tables(alloc: Global, items: &[Value]) -> Result<Tables, SchemaError>
     requires { length items.now ≤ MAX_TABLES }
     ensures ok { IfOk result (λ tables. tables_reading (Ok []) (items_view items.now) ≡ Ok tables) }
-    ensures err { IfErr result (RefusesTables (tables_reading (Ok []) (items_view items.now))) }
+    ensures err { IfErr result (Refuses cause_of (tables_reading (Ok []) (items_view items.now))) }
 {
     let mut tables = Items::new(alloc);
     for item in items {
@@ -97,13 +98,13 @@ fn read_table(
     earlier: &[Table],
     item: &Value,
 ) -> Result<Result<Table, SchemaWhy>, AllocError>
-    ensures { IfOk result (λ reading. reading ≡ table_reading earlier.now (stated_table (view item.now))) }
+    ensures { IfOk result (λ reading. reading ≡ table_or_why earlier.now (stated_table (view item.now))) }
 {
     let Some(stated) = StatedTable::from_json(alloc, item)? else {
         return Ok(Err(SchemaWhy::Shape));
     };
     match broken_rule(earlier, &stated) {
         Some(why) => Ok(Err(why)),
-        None => Ok(Ok(table_of(alloc, stated)?)),
+        None => Ok(Ok(table_stated(alloc, stated)?)),
     }
 }

@@ -1,6 +1,6 @@
 ghost use Rattle.std.specs.Prelude.{◌≡◌, not};
 ghost use Rattle.std.specs.List.{list_all};
-ghost use Rattle.voy_schema.specs.Rows.{has_lawful_values, has_whole_key, is_lawful_row, is_null, value_at};
+ghost use Rattle.voy_schema.specs.Rows.{has_lawful_values, has_whole_key, is_lawful_row, is_null, value_at, values_at};
 ghost use Rattle.voy_schema.specs.Values.{is_lawful_value};
 
 use crate::kinds::check_value;
@@ -42,11 +42,14 @@ fn has_lawful_values(columns: &[Column], values: &[Value]) -> bool
 pub fn has_whole_key(table: &Table, row: &Row) -> bool
     ensures { result ≡ has_whole_key table.now row.now }
 {
-    table
-        .primary_key
-        .as_slice()
-        .iter()
-        .all(|place| has_value(row, *place))
+    has_no_null(row, table.primary_key.as_slice())
+}
+
+/// Whether the row has a value that is not NULL in each of the columns at these places.
+pub fn has_no_null(row: &Row, places: &[u32]) -> bool
+    ensures { result ≡ list_all (λ v. not (is_null v)) (values_at row.now places.now) }
+{
+    places.iter().all(|place| has_value(row, *place))
 }
 
 /// Whether the row has a value in the column at `place` that is not NULL.

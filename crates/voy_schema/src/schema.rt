@@ -1,10 +1,10 @@
-ghost use Rattle.std.specs.Prelude.{◌≡◌, ◌<◌, true, false, length, slice_get, IfErr, IfOk, IfSome, MatchOption};
+ghost use Rattle.std.specs.Prelude.{◌≡◌, ◌<◌, true, false, length, slice_get, IfErr, IfOk, IfSome};
 ghost use Rattle.std.specs.Option.{option_copied};
 ghost use Rattle.voy_schema.specs.Lawful.{is_lawful, is_lawful_table, place_of};
-ghost use Rattle.voy_schema.specs.Reading.{RefusesTables, schema_reading};
+ghost use Rattle.voy_schema.specs.Reading.{cause_of, schema_reading};
+ghost use Rattle.voy_schema.specs.Refusal.{Refuses};
 
 use crate::copying::Copies;
-use crate::lawful;
 use crate::reading::read_schema;
 use crate::table::{Table, Tables};
 use crate::why::SchemaError;
@@ -20,25 +20,13 @@ pub struct Schema {
 }
 
 impl Schema {
-    /// The schema with these tables, with no memory taken. `None` where a limit, the form of a name or
-    /// the rule of a key is broken, or two tables have both names in common.
-    pub fn new(tables: Tables) -> Option<Schema>
-        ensures { MatchOption result (is_lawful tables ≡ false) (λ s. s.tables ≡ tables) }
-    {
-        if lawful::is_lawful(tables.as_slice()) {
-            Some(Schema { tables })
-        } else {
-            None
-        }
-    }
-
     /// The schema that the bytes of `schema.json` state.
     ///
     /// `SchemaError::Bad` comes exactly where a rule is broken. The document itself is tried first, then
     /// its tables in their order, and within a table the rules in the order of [`SchemaWhy`].
     pub fn read(alloc: Global, bytes: &[u8]) -> Result<Schema, SchemaError>
         ensures ok { IfOk result (λ s. schema_reading bytes.now ≡ Ok s.tables) }
-        ensures err { IfErr result (RefusesTables (schema_reading bytes.now)) }
+        ensures err { IfErr result (Refuses cause_of (schema_reading bytes.now)) }
     {
         let tables = read_schema(alloc, bytes)?;
         Ok(Schema { tables })

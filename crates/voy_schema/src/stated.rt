@@ -3,7 +3,7 @@ ghost use Rattle.serde_json.specs.View.{view};
 ghost use Rattle.voy_schema.specs.Stated.{stated_column, stated_key, stated_table};
 
 use crate::items::Items;
-use crate::json::{FromJson, is_exact, list_at, text_at};
+use crate::json::{FromJson, copied_text_at, flag_at, has_shape, is_exact, list_at};
 use crate::text::Text;
 use serde_json::Value;
 use std::alloc::{AllocError, Global};
@@ -27,6 +27,7 @@ pub struct StatedColumn {
 #[derive(Debug, Drop)]
 pub struct StatedKey {
     pub columns: Items<Text>,
+    pub nulls_not_distinct: bool,
 }
 
 const TABLE_NAMES: [&str; 5] = [
@@ -41,6 +42,8 @@ const COLUMN_NAMES: [&str; 2] = ["name", "type"];
 
 const KEY_NAMES: [&str; 1] = ["columns"];
 
+const NAMES_A_KEY_MAY_HAVE: [&str; 2] = ["columns", "nulls_not_distinct"];
+
 impl FromJson for StatedTable {
     ghost stated = { stated_table };
 
@@ -49,10 +52,10 @@ impl FromJson for StatedTable {
         if !is_exact(value, &TABLE_NAMES) {
             return Ok(None);
         }
-        let Some(schema_name) = text_at(alloc, value, "schema_name")? else {
+        let Some(schema_name) = copied_text_at(alloc, value, "schema_name")? else {
             return Ok(None);
         };
-        let Some(table_name) = text_at(alloc, value, "table_name")? else {
+        let Some(table_name) = copied_text_at(alloc, value, "table_name")? else {
             return Ok(None);
         };
         let Some(columns) = list_at(alloc, value, "columns")? else {
@@ -82,10 +85,10 @@ impl FromJson for StatedColumn {
         if !is_exact(value, &COLUMN_NAMES) {
             return Ok(None);
         }
-        let Some(name) = text_at(alloc, value, "name")? else {
+        let Some(name) = copied_text_at(alloc, value, "name")? else {
             return Ok(None);
         };
-        let Some(kind) = text_at(alloc, value, "type")? else {
+        let Some(kind) = copied_text_at(alloc, value, "type")? else {
             return Ok(None);
         };
         Ok(Some(StatedColumn { name, kind }))
@@ -95,14 +98,20 @@ impl FromJson for StatedColumn {
 impl FromJson for StatedKey {
     ghost stated = { stated_key };
 
-    #[tactic(auto, unfolding(crate::specs::Stated::key_names))]
+    #[tactic(auto, unfolding(crate::specs::Stated::key_names, crate::specs::Stated::names_a_key_may_have))]
     fn from_json(alloc: Global, value: &Value) -> Result<Option<Self>, AllocError> {
-        if !is_exact(value, &KEY_NAMES) {
+        if !has_shape(value, &KEY_NAMES, &NAMES_A_KEY_MAY_HAVE) {
             return Ok(None);
         }
         let Some(columns) = list_at(alloc, value, "columns")? else {
             return Ok(None);
         };
-        Ok(Some(StatedKey { columns }))
+        let Some(nulls_not_distinct) = flag_at(value, "nulls_not_distinct") else {
+            return Ok(None);
+        };
+        Ok(Some(StatedKey {
+            columns,
+            nulls_not_distinct,
+        }))
     }
 }

@@ -23,10 +23,14 @@ pub type Columns = Items<Column>;
 /// Places of columns in their table, from 0.
 pub type Places = Items<u32>;
 
-/// Columns whose values no two rows of the table share, where none of the values is NULL.
+/// Columns whose values no two rows of the table share.
+///
+/// Where `nulls_not_distinct` is set, NULLs equal one another there (`NULLS NOT DISTINCT` of PostgreSQL).
+/// Else rows with a NULL in one of the columns share nothing with others.
 #[derive(Debug, Drop)]
 pub struct UniqueKey {
     pub columns: Places,
+    pub nulls_not_distinct: bool,
 }
 
 pub type UniqueKeys = Items<UniqueKey>;
@@ -68,7 +72,10 @@ impl Copies for Column {
 impl Copies for UniqueKey {
     fn copy(&self) -> Result<Self, AllocError> {
         let columns = self.columns.copy()?;
-        Ok(UniqueKey { columns })
+        Ok(UniqueKey {
+            columns,
+            nulls_not_distinct: self.nulls_not_distinct,
+        })
     }
 }
 

@@ -1,6 +1,6 @@
-ghost use Rattle.std.specs.Prelude.{◌≡◌, ◌↔◌, IsTrue, IfOk, string_bytes, IsUtf8};
+ghost use Rattle.std.specs.Prelude.{◌≡◌, IfOk, string_bytes, IsUtf8};
 
-use crate::copying::{Copies, Same};
+use crate::copying::Copies;
 use smallvec::SmallVec;
 use std::alloc::{AllocError, Global};
 use std::fmt;
@@ -50,12 +50,6 @@ impl Copies for Text {
     fn copy(&self) -> Result<Self, AllocError> {
         let bytes = SmallVec::from_slice(*self.bytes.allocator(), self.bytes.as_slice())?;
         Ok(Text { bytes })
-    }
-}
-
-impl Same for Text {
-    fn same(&self, other: &Self) -> bool {
-        self.as_str() == other.as_str()
     }
 }
 

@@ -2,7 +2,7 @@ ghost use Rattle.std.specs.Prelude.{◌≡◌};
 ghost use Rattle.voy_schema.specs.Abbreviations.{AbbreviatesItems};
 
 use crate::abbreviating::Abbreviate;
-use crate::copying::{Copies, Same};
+use crate::copying::Copies;
 use crate::items::Items;
 use std::alloc::AllocError;
 use std::marker::Model;
@@ -68,11 +68,5 @@ impl<T: Abbreviate + Copies + Drop> Copies for Tuple<T> {
             abbreviation: self.abbreviation,
             items,
         })
-    }
-}
-
-impl<T: Abbreviate + Same> Same for Tuple<T> {
-    fn same(&self, other: &Self) -> bool {
-        self.items.same(&other.items)
     }
 }

@@ -1,4 +1,4 @@
-use crate::copying::{Copies, Same};
+use crate::copying::Copies;
 use crate::items::Items;
 use crate::text::Text;
 use crate::tuple::Tuple;
@@ -27,16 +27,6 @@ impl Copies for Value {
         match self {
             Value::Null => Ok(Value::Null),
             Value::Text(text) => Ok(Value::Text(text.copy()?)),
-        }
-    }
-}
-
-impl Same for Value {
-    fn same(&self, other: &Self) -> bool {
-        match (self, other) {
-            (Value::Null, Value::Null) => true,
-            (Value::Text(a), Value::Text(b)) => a.same(b),
-            _ => false,
         }
     }
 }

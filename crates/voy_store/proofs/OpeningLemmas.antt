@@ -2,13 +2,15 @@
 use Rattle.std.proofs.Common.{◌≡◌, ◌+◌, ◌<◌, ◌≤◌, ◌^◌, ◌&&◌, ℕ, zero, suc, Bool, true, false, cond, List, [], ◌∷◌, ◌++◌, Option, Some, None, drop, get_or, is_none, length, length-append, map, take, refl, sym, ap, ◌∙◌, arith}
 use Rattle.std.proofs.lemmas.List.{drop_more, take_more, map-append}
 use Rattle.std.specs.Global.{Vec}
-use Rattle.std.specs.Option.{option_and_then}
-use Rattle.voy_disk.specs.Calls.{Change, told, untold}
+use Rattle.std.specs.Option.{option_and_then, option_map}
+use Rattle.voy_disk.specs.Calls.{Change, told}
 use Rattle.voy_disk.specs.Files.{Files, IfTold, bytes_now}
 use Rattle.voy_disk.specs.Images.{ImagesOf}
 use Rattle.voy_disk.specs.Steps.{Every}
 use Rattle.voy_journal.specs.Grammar.{Fit, HasPayloads, entries}
-use Rattle.voy_journal.specs.Journal.{KeepsOtherFiles, StandsOn, journal_name, known_payloads, payloads_in}
+use Rattle.voy_journal.specs.Journal.{StandsOn, journal_name, known_payloads, payloads_in}
+use Rattle.voy_journal.specs.RefusalLaws.{refused_behind}
+use Rattle.voy_journal.specs.Refusals.{refused_from}
 use Rattle.voy_journal.specs.declared.state.Journal.{Journal}
 use Rattle.voy_journal.specs.declared.limits.TheConstants.{MAX_PAYLOAD_BYTES}
 use Rattle.voy_schema.specs.declared.table.Table.{Table}
@@ -16,7 +18,7 @@ use Rattle.voy_store.proofs.JournalLogLemmas.{history_more, history_of_one, more
 use Rattle.voy_store.specs.JournalLogLaws.{stands_as_known}
 use Rattle.voy_store.specs.JournalLogs.{history_on, history_told}
 use Rattle.voy_store.specs.Opening.{TellsStored}
-use Rattle.voy_store.specs.Stored.{first_bad, if_taken, store_name}
+use Rattle.voy_store.specs.Stored.{bad_gate, contents_with, if_taken, store_name}
 use Rattle.voy_store.specs.Taking.{AreTaken}
 use Rattle.voy_txn.specs.Commits.{is_next}
 use Rattle.voy_txn.specs.Contents.{Contents, contents_after, contents_of}
@@ -24,11 +26,7 @@ use Rattle.voy_txn.specs.HistoryLaws.{contents_grow}
 use Rattle.voy_txn.specs.Items.{violation_of}
 use Rattle.voy_txn.specs.Reading.{txn_reading}
 use Rattle.voy_txn.specs.declared.txn.Txn.{Txn}
-
--- files that stay as they are
-pub nothing_changed : (name : List ℕ) (files : Option Files) → Change (KeepsOtherFiles name) files files
-nothing_changed name None = untold
-nothing_changed name (Some fs) = told (λ other differs. refl)
+use Rattle.voy_disk.specs.Frames.{KeepsOtherFiles}
 
 abbrev pub bytes_of : List (Vec ℕ) → List (List ℕ)
 bytes_of payloads = map (λ (payload : Vec ℕ). payload.items) payloads
@@ -44,15 +42,10 @@ passed_at payloads i payload within is =
     ap bytes_of (take_more payloads i payload within ∙ ap (λ (p : Vec ℕ). take i payloads ++ p ∷ []) (sym is))
     ∙ map-append (λ (p : Vec ℕ). p.items) (take i payloads) (payload ∷ [])
 
--- a payload that is no transaction or is not taken is the first bad one, and one that is taken is not
-pub bad_here : (schema : List Table) (contents : Contents) (offset : ℕ) (payload : List ℕ) (rest : List (List ℕ))
-    → option_and_then (if_taken schema contents) (txn_reading schema payload) ≡ None → first_bad schema contents offset (payload ∷ rest) ≡ Some offset
-bad_here schema contents offset payload rest none = rw none refl
-
-pub good_here : (schema : List Table) (contents : Contents) (offset : ℕ) (payload : List ℕ) (rest : List (List ℕ)) (txn : Txn)
-    → option_and_then (if_taken schema contents) (txn_reading schema payload) ≡ Some txn
-    → first_bad schema contents offset (payload ∷ rest) ≡ first_bad schema (contents_after schema contents txn) (offset + (5 + length payload)) rest
-good_here schema contents offset payload rest txn some = rw some refl
+-- a store knows what comes after a transaction that it takes
+pub knows_taken : (schema : List Table) (contents : Contents) (payload : List ℕ) (txn : Txn) → option_and_then (if_taken schema contents) (txn_reading schema payload) ≡ Some txn
+    → contents_with schema contents payload ≡ Some (contents_after schema contents txn)
+knows_taken schema contents payload txn some = ap (option_map (contents_after schema contents)) some
 
 -- what is taken was read
 pub taken_is_read : (schema : List Table) (contents : Contents) (read : Option Txn) (txn : Txn) → option_and_then (if_taken schema contents) read ≡ Some txn → read ≡ Some txn
@@ -107,11 +100,13 @@ module _ (schema : List Table) (payloads : List (Vec ℕ)) (i : ℕ) (payload : 
 
   pub rest_more : (offset next : ℕ) (txn : Txn) (old new : Contents) (found : Option ℕ) → next ≡ offset + (5 + length payload.items)
       → option_and_then (if_taken schema old) (txn_reading schema payload.items) ≡ Some txn → new ≡ contents_after schema old txn
-      → first_bad schema old offset (bytes_of (drop i payloads)) ≡ found → first_bad schema new next (bytes_of (drop (i + 1) payloads)) ≡ found
+      → refused_from (contents_with schema) old offset (bytes_of (drop i payloads)) ≡ found
+      → refused_from (contents_with schema) new next (bytes_of (drop (i + 1) payloads)) ≡ found
   rest_more offset next txn old new found moved taken after left =
       rw (moved, after)
-      (sym (good_here schema old offset payload.items (bytes_of (drop (i + 1) payloads)) txn taken)
-      ∙ ap (first_bad schema old offset) (sym (left_at payloads i payload within is)) ∙ left)
+      (sym (refused_behind (contents_with schema) old (contents_after schema old txn) offset payload.items (bytes_of (drop (i + 1) payloads))
+      (knows_taken schema old payload.items txn taken))
+      ∙ ap (refused_from (contents_with schema) old offset) (sym (left_at payloads i payload within is)) ∙ left)
 
 -- ---- the whole opening
 
@@ -119,7 +114,7 @@ module _ (schema : List Table) (payloads : List (Vec ℕ)) (i : ℕ) (payload : 
 pub tells_stored : (schema : List Table) (name : List ℕ) (payloads : List (List ℕ)) (journal : Journal) (contents : Contents) (fs : Files) (new : Option Files)
     → HasPayloads payloads (bytes_now (fs name)) → Change (KeepsOtherFiles name) (Some fs) new
     → IfTold new (λ y. known_payloads journal (Some y) ≡ Some payloads) → AreTaken schema payloads contents
-    → first_bad schema (contents_of schema []) 0 payloads ≡ None
+    → bad_gate schema payloads ≡ None
     → TellsStored schema (bytes_now (fs name)) (history_on schema journal new)
 tells_stored schema name payloads journal contents fs new has (told {new = y} others) known taken good = record {
   history = taken.history;

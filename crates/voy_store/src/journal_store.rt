@@ -6,10 +6,11 @@ ghost use Rattle.voy_disk.specs.Files.{IfTold, bytes_now};
 ghost use Rattle.voy_disk.specs.Images.{ImagesOf};
 ghost use Rattle.voy_disk.specs.Steps.{Every, Follows, StaysTold};
 ghost use Rattle.voy_journal.specs.Grammar.{DamagedAt, FitAFile, HasPayloads};
-ghost use Rattle.voy_journal.specs.Journal.{KeepsOtherFiles, KeepsPayloads, StandsOn, is_live, journal_name, known_payloads, payloads_in};
+ghost use Rattle.voy_journal.specs.Journal.{KeepsPayloads, StandsOn, is_live, journal_name, known_payloads, payloads_in};
 ghost use Rattle.voy_store.specs.JournalLogs.{history_on, history_told};
 ghost use Rattle.voy_store.specs.Opening.{TellsStored, cause_of, given_back};
 ghost use Rattle.voy_store.specs.Stored.{IsStoreDamaged, store_name};
+ghost use Rattle.voy_disk.specs.Frames.{KeepsOtherFiles};
 
 use crate::journal_log::JournalLog;
 use crate::log_store::LogStore;
@@ -82,7 +83,7 @@ impl<D: Disk> LogStore<JournalLog<D>> {
 }
 
 /// Opens the journal of a store.
-#[tactic(auto, using(crate::proofs::OpeningLemmas::nothing_changed))]
+#[tactic(auto, using(voy_disk::specs::ChangeLaws::others_still))]
 fn open_journal<D: Disk>(alloc: Global, disk: &mut D) -> Result<Opened, OpenError>
     ensures payloads { IfOk result (λ opened. IfTold (D.files disk.old) (λ fs. HasPayloads opened.payloads (bytes_now (fs store_name)))) }
     ensures known { IfOk result (λ opened. IfTold (D.files disk.new) (λ fs. known_payloads opened.journal (Some fs) ≡ Some opened.payloads)) }

@@ -1,9 +1,8 @@
-ghost use Rattle.std.specs.Prelude.{◌≡◌, ◌≢◌, ℕ, [], map, IfErr, IfOk};
+ghost use Rattle.std.specs.Prelude.{◌≡◌, ◌≢◌, map, IfErr, IfOk};
 ghost use Rattle.voy_contents.specs.Known.{known, schema_of};
 ghost use Rattle.voy_journal.specs.Grammar.{FitAFile};
-ghost use Rattle.voy_store.specs.Stored.{first_bad};
+ghost use Rattle.voy_store.specs.Stored.{bad_gate};
 ghost use Rattle.voy_store.specs.Taking.{AreTaken, Finds};
-ghost use Rattle.voy_txn.specs.Contents.{contents_of};
 
 use crate::open_error::OpenError;
 use crate::taking::take_payload;
@@ -22,7 +21,7 @@ pub(crate) fn read_contents(
     requires fits { FitAFile (map (λ payload. payload.items) payloads.now) }
     ensures schema { IfOk result (λ contents. schema_of contents ≡ schema.tables) }
     ensures taken { IfOk result (λ contents. AreTaken schema.tables (map (λ payload. payload.items) payloads.now) (known contents)) }
-    ensures bad { Finds result (first_bad schema.tables (contents_of schema.tables []) 0 (map (λ payload. payload.items) payloads.now)) }
+    ensures bad { Finds result (bad_gate schema.tables (map (λ payload. payload.items) payloads.now)) }
     ensures no_fault { IfErr result (λ why. why ≢ OpenError.Fault) }
 {
     let mut contents = MemContents::new(alloc, schema)?;

@@ -15,6 +15,7 @@ use Rattle.csv.specs.Reading.{default_config, records}
 use Rattle.csv.specs.Writing.{default_writer, row_text}
 use Rattle.csv.specs.declared.parser.State.TheVariants as st
 use Rattle.voy_schema.specs.Rows.{has_lawful_values, has_whole_key, is_lawful_row}
+use Rattle.voy_schema.specs.Parts.{in_front}
 use Rattle.voy_schema.specs.TextLaws.{ascii_is_utf8, lawful_text_is_utf8}
 use Rattle.voy_schema.specs.Values.{is_lawful_value}
 use Rattle.voy_schema.specs.declared.table.Column.{Column}
@@ -24,7 +25,7 @@ use Rattle.voy_schema.specs.declared.value.Value.{Value}
 use Rattle.voy_schema.specs.declared.value.Value.TheVariants.{Null, Text}
 use Rattle.voy_tables.proofs.FieldLemmas.{value_behind-backslash, value_of-plain}
 use Rattle.voy_tables.proofs.TurnLemmas.{records_in-next, records_in-none}
-use Rattle.voy_tables.specs.Readings.{begins_with_mark, behind_header, fields_at, first_misplaced, headed_reading, header_reading, if_lawful, if_placed, in_front, onto, record_reading, recorded_reading, records_reading, row_of, row_reading, rows_reading, unless_misplaced, value_of, without_mark}
+use Rattle.voy_tables.specs.Readings.{begins_with_mark, behind_header, fields_at, first_misplaced, headed_reading, header_reading, if_lawful, if_placed, onto, record_reading, recorded_rows, records_reading, row_of, row_reading, rows_reading, unless_misplaced, value_of, without_mark}
 use Rattle.voy_tables.specs.RowLaws.{is_written}
 use Rattle.voy_tables.specs.RowText.{field_of, is_too_long, row_line, row_lines, starts_with_backslash, text_field}
 use Rattle.voy_tables.specs.Unread.{records_in}
@@ -62,7 +63,7 @@ field_is_utf8 kind (Text text) lawful =
     ]
 
 -- the fields of a lawful row read as it
-fields_read_back : (columns : List Column) (row : List Value) → has_lawful_values columns row ≡ true → row_of columns (map field_of row) ≡ Some row
+pub fields_read_back : (columns : List Column) (row : List Value) → has_lawful_values columns row ≡ true → row_of columns (map field_of row) ≡ Some row
 fields_read_back [] [] lawful = refl
 fields_read_back [] (v ∷ row) lawful = cc
 fields_read_back (c ∷ columns) [] lawful = cc
@@ -89,7 +90,7 @@ record_reads_back t row written =
     let short = not-true (is_too_long row) two.1 in
     rw (eq-eqb _ _ (as_wide t.columns row lawful.0), fields_are_utf8 t.columns row lawful.0, fields_read_back t.columns row lawful.0, lawful.1, short)
 
-no_empty_row : (columns : List Column) → 1 ≤ length columns → has_lawful_values columns [] ≡ true → ⊥
+pub no_empty_row : (columns : List Column) → 1 ≤ length columns → has_lawful_values columns [] ≡ true → ⊥
 no_empty_row [] wide lawful = omega arith
 no_empty_row (c ∷ columns) wide lawful = cc
 
@@ -263,8 +264,8 @@ headed_rows_are_written t (header ∷ rest) rows read = by (header_reading t hea
     by (Err e) read = cc
     by (Ok places) read = rows_are_written t (fields_at places) 2 rest rows read
 
-pub recorded_rows_are_written : (t : Table) (rows : List (List Value)) (bytes : List ℕ) → recorded_reading t bytes ≡ Ok rows → list_all (is_written t) rows ≡ true
-unfolding recorded_reading
+pub recorded_rows_are_written : (t : Table) (rows : List (List Value)) (bytes : List ℕ) → recorded_rows t bytes ≡ Ok rows → list_all (is_written t) rows ≡ true
+unfolding recorded_rows
 recorded_rows_are_written t rows bytes read = by (begins_with_mark (without_mark bytes)) read
   where
     by : (twice : Bool) → (if twice then Err (Bad 1 why.Header) else headed_reading t (records default_config (without_mark bytes))) ≡ Ok rows → list_all (is_written t) rows ≡ true

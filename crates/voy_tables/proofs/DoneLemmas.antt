@@ -2,13 +2,13 @@
 use Rattle.std.proofs.Common.{◌≡◌, ◌≢◌, ℕ, zero, suc, ◌<◌, Bool, true, false, ◌&&◌, List, [], ◌∷◌, length, arith, Option, Some, None, map, refl, sym, ap, ◌∙◌, subst, inl, inr}
 use Rattle.std.specs.List.{list_all}
 use Rattle.std.specs.Prelude.{◌==◌, if◌then◌else◌, slice_get, slice_set}
-use Rattle.std.proofs.lemmas.Bool.{and_parts, cases_Bool, eq-eqb, eqb-true, eqb-false}
+use Rattle.std.proofs.lemmas.Bool.{and_from, and_parts, cases_Bool, eq-eqb, eqb-true, eqb-false}
 use Rattle.std.proofs.lemmas.Option.{same_Some}
 use Rattle.voy_schema.specs.Rows.{is_lawful_row, key_of}
 use Rattle.voy_schema.specs.declared.table.Table.{Table}
 use Rattle.voy_schema.specs.declared.value.Value.{Value}
 use Rattle.voy_tables.proofs.LookLemmas.{row_with_key-with_row, row_with_key-with_other_row, row_with_key-without_key, row_with_key-without_other_key}
-use Rattle.voy_tables.proofs.SameLemmas.{same_key-decides, same_key-sym}
+use Rattle.voy_tables.specs.SameLaws.{same_key-decides, same_key-sym}
 use Rattle.voy_tables.proofs.TableLemmas.{are_tables-at, are_tables-set, is_table-ascends, is_table-with_row, is_table-without_key, within_lists}
 use Rattle.voy_tables.specs.Changes.{RowChange, RowId, is_row_of, is_well_formed, key_in, row_change}
 use Rattle.voy_tables.specs.Keys.{same_key}
@@ -175,3 +175,15 @@ no_row (Some t) key = refl
 
 pub look-empty : (schema : List Table) (id : RowId) → look schema (empty_lists schema) id ≡ None
 look-empty schema id = rw (empty_rows schema id.table) (no_row (slice_get schema id.table) id.key)
+
+rows_are_formed : (schema : List Table) (table : ℕ) (t : Table) (rows : List (List Value)) → slice_get schema table ≡ Some t → list_all (is_lawful_row t) rows ≡ true
+    → list_all (is_well_formed schema) (map (Insert table) rows) ≡ true
+rows_are_formed schema table t [] found lawful = refl
+rows_are_formed schema table t (row ∷ rows) found lawful =
+    let parts = and_parts (is_lawful_row t row) (list_all (is_lawful_row t) rows) lawful in
+    and_from _ _ (ap (λ o. is_row_of o row) found ∙ parts.0) (rows_are_formed schema table t rows found parts.1)
+
+-- lawful rows that are inserted are done as well-formed changes are
+pub rows_are_done : (schema : List Table) (lists : List (List (List Value))) (table : ℕ) (t : Table) (rows : List (List Value))
+    → slice_get schema table ≡ Some t → are_tables schema lists ≡ true → list_all (is_lawful_row t) rows ≡ true → AreDone schema lists (map (Insert table) rows)
+rows_are_done schema lists table t rows found stand lawful = are_done schema lists (map (Insert table) rows) stand (rows_are_formed schema table t rows found lawful)

@@ -1,7 +1,7 @@
 -- A well-formed change has no misfit exactly where it fits the tables.
 use Rattle.std.proofs.Common.{◌≡◌, ◌≢◌, ℕ, Bool, true, false, ◌&&◌, ◌↔◌, not, List, [], ◌∷◌, Option, Some, None, refl, sym, ap, ◌∙◌, subst, inl, inr}
 use Rattle.std.specs.List.{list_all, list_any}
-use Rattle.std.specs.Prelude.{if◌then◌else◌, slice_get}
+use Rattle.std.specs.Prelude.{if◌then◌else◌, is_some, slice_get}
 use Rattle.std.proofs.lemmas.Bool.{and_from, and_parts, false≢true, false_from_ne_true, not-true, not_from_false, or_cases, or_parts}
 use Rattle.std.proofs.lemmas.Option.{none-some, same_Some}
 use Rattle.voy_schema.specs.Rows.{counting_tuple, key_of, tuple_of}
@@ -10,12 +10,12 @@ use Rattle.voy_schema.specs.declared.table.UniqueKey.{UniqueKey}
 use Rattle.voy_schema.specs.declared.value.Value.{Value}
 use Rattle.voy_tables.proofs.DoneLemmas.{change_names}
 use Rattle.voy_tables.proofs.LookLemmas.{row_with_key-behind, row_with_key-first, same_key-apart}
-use Rattle.voy_tables.proofs.MisfitLemmas.{misfit_by-fits, misfit_by-none, unique_misfit-free, unique_misfit-none}
-use Rattle.voy_tables.proofs.SameLemmas.{same_key-decides, same_values-decides}
+use Rattle.voy_tables.specs.MisfitLaws.{misfit_by-fits, misfit_by-none, unique_misfit-free, unique_misfit-none}
+use Rattle.voy_tables.specs.SameLaws.{same_key-decides, same_tuple-decides}
 use Rattle.voy_tables.proofs.TableLemmas.{are_tables-at, is_table-ascends}
 use Rattle.voy_tables.specs.Changes.{RowChange, RowId, is_well_formed, row_change}
 use Rattle.voy_tables.specs.Keys.{same_key, same_tuple}
-use Rattle.voy_tables.specs.Lists.{is_taken, look, misfit_by, misfit_of, row_standing, row_with_key, rows_in, unique_misfit}
+use Rattle.voy_tables.specs.Lists.{is_taken, look, misfit_by, misfit_of, row_standing, row_with_key, rows_in, stands_elsewhere, unique_misfit}
 use Rattle.voy_tables.specs.Standing.{are_tables, ascends, is_below}
 use Rattle.voy_tables.specs.Tables.{Fits, tuple_in}
 use Rattle.voy_tables.specs.declared.change.Change.{Change}
@@ -69,15 +69,12 @@ pub record Shares (a b : Option (List Value)) : Type 0 where
   pub first : a ≡ Some values
   pub second : b ≡ Some values
 
-shares : (a b : Option (List Value)) → same_tuple a b ≡ true → Shares a b
-unfolding same_tuple
-shares None b h = cc
-shares (Some u) None h = cc
-shares (Some u) (Some v) h = record { values = u; first = refl; second = ap Some (sym ((same_values-decides u v).0 h)) }
+shares : (a b : Option (List Value)) → is_some a ≡ true → same_tuple a b ≡ true → Shares a b
+shares None b counts same = cc
+shares (Some u) b counts same = record { values = u; first = refl; second = sym ((same_tuple-decides (Some u) b).0 same) }
 
 same_tuple-shared : (a b : Option (List Value)) (values : List Value) → a ≡ Some values → b ≡ Some values → same_tuple a b ≡ true
-unfolding same_tuple
-same_tuple-shared a b values first second = rw (first, second) ((same_values-decides values values).1 refl)
+same_tuple-shared a b values first second = (same_tuple-decides a b).1 (first ∙ sym second)
 
 -- a tuple for a unique key of the table at this place
 tuple_in-found : (schema : List Table) (table : ℕ) (t : Table) (unique : ℕ) (row : Option (List Value)) → slice_get schema table ≡ Some t
@@ -123,7 +120,9 @@ not_taken t key other u after rows values apart free first second = by (row_with
         let found = is_found t other rows row e in
         let other_key = same_key-apart (key_of t row) key (λ same. apart (sym found.key_is ∙ same)) in
         let takes = and_from _ _ (not_from_false _ other_key) (same_tuple-shared (counting_tuple u after) (counting_tuple u (Some row)) values first second) in
-        let free_of = found.any (λ r. not (same_key (key_of t r) key) && same_tuple (counting_tuple u after) (counting_tuple u (Some r))) free in
+        let none : stands_elsewhere t key (counting_tuple u after) rows u ≡ false =
+        sym (ap (λ o. is_some o && stands_elsewhere t key (counting_tuple u after) rows u) first) ∙ free in
+        let free_of = found.any (λ r. not (same_key (key_of t r) key) && same_tuple (counting_tuple u after) (counting_tuple u (Some r))) none in
         false≢true (sym free_of ∙ takes)
 
 -- where no row of another key has a tuple, it is not taken
@@ -134,9 +133,10 @@ free_where t key u after rows up apart = false_from_ne_true (is_taken t key afte
   where
     taken : is_taken t key after rows u ≡ true → ⊥
     taken some =
-        let p = passing t (λ r. not (same_key (key_of t r) key) && same_tuple (counting_tuple u after) (counting_tuple u (Some r))) rows up some in
+        let both = and_parts (is_some (counting_tuple u after)) (stands_elsewhere t key (counting_tuple u after) rows u) some in
+        let p = passing t (λ r. not (same_key (key_of t r) key) && same_tuple (counting_tuple u after) (counting_tuple u (Some r))) rows up both.1 in
         let parts = and_parts (not (same_key (key_of t p.row) key)) (same_tuple (counting_tuple u after) (counting_tuple u (Some p.row))) p.passes in
-        let shared = shares (counting_tuple u after) (counting_tuple u (Some p.row)) parts.1 in
+        let shared = shares (counting_tuple u after) (counting_tuple u (Some p.row)) both.0 parts.1 in
         let other_key : key_of t p.row ≢ key = λ e. false≢true (sym (not-true (same_key (key_of t p.row) key) parts.0) ∙ (same_key-decides (key_of t p.row) key).1 e) in
         apart (key_of t p.row) shared.values other_key shared.first (ap (counting_tuple u) p.there ∙ shared.second)
 

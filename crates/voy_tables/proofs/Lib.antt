@@ -1,5 +1,3 @@
-pub mod SameLemmas
-pub mod MisfitLemmas
 pub mod PlaceLemmas
 pub mod OrderLemmas
 pub mod TableLemmas
@@ -12,3 +10,4 @@ pub mod ReaderLemmas
 pub mod ReadingLemmas
 pub mod FieldLemmas
 pub mod BackLemmas
+pub mod RowLineLemmas

@@ -9,7 +9,7 @@ use Rattle.voy_schema.specs.Rows.{key_of}
 use Rattle.voy_schema.specs.declared.table.Table.{Table}
 use Rattle.voy_schema.specs.declared.value.Value.{Value}
 use Rattle.voy_tables.proofs.OrderLemmas.{equal_keys, is_less, key_order, same_key-by_cmp}
-use Rattle.voy_tables.proofs.SameLemmas.{same_key-decides}
+use Rattle.voy_tables.specs.SameLaws.{same_key-decides}
 use Rattle.voy_tables.specs.Keys.{key_cmp, same_key}
 use Rattle.voy_tables.specs.Lists.{put_by, row_with_key, with_row, without_key}
 use Rattle.voy_tables.specs.Standing.{ascends, is_below}

@@ -11,7 +11,7 @@ use Rattle.std.proofs.lemmas.Bool.{and_from, and_parts}
 use Rattle.voy_schema.specs.Rows.{key_of}
 use Rattle.voy_schema.specs.declared.table.Table.{Table}
 use Rattle.voy_schema.specs.declared.value.Value.{Value}
-use Rattle.voy_tables.proofs.SameLemmas.{same_key-decides}
+use Rattle.voy_tables.specs.SameLaws.{same_key-decides}
 use Rattle.voy_tables.specs.Keys.{key_cmp, same_key}
 use Rattle.voy_tables.specs.Lists.{put_by, with_row, without_key}
 use Rattle.voy_tables.specs.Standing.{ascends, is_below}

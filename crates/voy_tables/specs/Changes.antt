@@ -13,6 +13,27 @@ table_of (Insert table after) = table
 table_of (Update table before after) = table
 table_of (Delete table before) = table
 
+-- the row before a change, and after it
+abbrev pub before_of : Change → Option (List Value)
+before_of (Insert table after) = None
+before_of (Update table before after) = Some before
+before_of (Delete table before) = Some before
+
+abbrev pub after_of : Change → Option (List Value)
+after_of (Insert table after) = Some after
+after_of (Update table before after) = Some after
+after_of (Delete table before) = None
+
+-- the row whose key the change names
+abbrev pub keyed_row : Change → List Value
+keyed_row (Insert table after) = after
+keyed_row (Update table before after) = before
+keyed_row (Delete table before) = before
+
+-- the key that a change of this table names
+abbrev pub key_changed : Table → Change → List (List ℕ)
+key_changed t c = key_of t (keyed_row c)
+
 -- which row: its table's place in the schema, and its key
 pub record RowId : Type 0 where
   pub table : ℕ
@@ -34,9 +55,7 @@ id_of schema table row = record { table = table; key = key_in (slice_get schema 
 
 -- what a change does, row by row
 abbrev pub row_change : List Table → Change → RowChange
-row_change schema (Insert table after) = record { row = id_of schema table after; before = None; after = Some after }
-row_change schema (Update table before after) = record { row = id_of schema table before; before = Some before; after = Some after }
-row_change schema (Delete table before) = record { row = id_of schema table before; before = Some before; after = None }
+row_change schema c = record { row = id_of schema (table_of c) (keyed_row c); before = before_of c; after = after_of c }
 
 -- the table at this place takes this row
 abbrev pub is_row_of : Option Table → List Value → Bool

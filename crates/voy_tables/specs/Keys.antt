@@ -31,8 +31,9 @@ same_value (Text a) (Text b) = pointwise nat_eq a b
 abbrev pub same_values : List Value → List Value → Bool
 same_values a b = pointwise same_value a b
 
--- both are there with the same values; nothing is the same as no tuple
+-- both tuples are there with the same values, or neither is there
 unfoldable pub same_tuple : Option (List Value) → Option (List Value) → Bool
-same_tuple None b = false
+same_tuple None None = true
+same_tuple None (Some b) = false
 same_tuple (Some a) None = false
 same_tuple (Some a) (Some b) = same_values a b

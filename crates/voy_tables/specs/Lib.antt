@@ -4,7 +4,11 @@ pub mod Tables
 pub mod Lists
 pub mod Folds
 pub mod RowText
+pub mod RowTextLaws
 pub mod Standing
+pub mod SameLaws
+pub mod MisfitLaws
+pub mod CleanLaws
 pub mod Laws
 pub mod Unread
 pub mod Readings

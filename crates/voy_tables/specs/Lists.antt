@@ -1,5 +1,5 @@
 -- Tables as lists: for each table its rows by ascending key, and what a change does to them.
-use Rattle.std.specs.Prelude.{◌≡◌, ℕ, Bool, List, [], ◌∷◌, ◌&&◌, Option, Some, None, map, not, option_map, position, slice_get, slice_set, if◌then◌else◌}
+use Rattle.std.specs.Prelude.{◌≡◌, ℕ, Bool, List, [], ◌∷◌, ◌&&◌, Option, Some, None, is_some, map, not, option_map, position, slice_get, slice_set, if◌then◌else◌}
 use Rattle.std.specs.List.{list_any}
 use Rattle.std.specs.declared.cmp.Ordering.{Ordering}
 use Rattle.std.specs.declared.cmp.Ordering.TheVariants.{Less, Equal, Greater}
@@ -68,10 +68,15 @@ abbrev pub fold_lists : List Table → List (List (List Value)) → List RowChan
 fold_lists schema lists [] = lists
 fold_lists schema lists (c ∷ cs) = fold_lists schema (lists_after schema c lists) cs
 
--- a row of another key has this tuple
+-- a row of another key has the same tuple
+abbrev pub stands_elsewhere : Table → List (List ℕ) → Option (List Value) → List (List Value) → UniqueKey → Bool
+stands_elsewhere t key tuple rows unique =
+    list_any (λ row. not (same_key (key_of t row) key) && same_tuple tuple (counting_tuple unique (Some row))) rows
+
+-- the new row has a counting tuple, and a row of another key has the same
 abbrev pub is_taken : Table → List (List ℕ) → Option (List Value) → List (List Value) → UniqueKey → Bool
 is_taken t key after rows unique =
-    list_any (λ row. not (same_key (key_of t row) key) && same_tuple (counting_tuple unique after) (counting_tuple unique (Some row))) rows
+    is_some (counting_tuple unique after) && stands_elsewhere t key (counting_tuple unique after) rows unique
 
 -- the least unique key whose tuple another row has
 abbrev pub unique_misfit : Table → List (List ℕ) → Option (List Value) → List (List Value) → Option Misfit

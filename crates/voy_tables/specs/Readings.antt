@@ -1,8 +1,9 @@
 -- What a text of rows reads as, and for which record and cause it is refused.
-use Rattle.std.specs.Prelude.{◌≡◌, ℕ, ◌+◌, ◌==◌, ◌&&◌, Bool, List, [], ◌∷◌, Option, Some, None, Result, Ok, Err, ⊤, codes, count_by, drop, length, map, not, slice_index_or, take, if◌then◌else◌}
+use Rattle.std.specs.Prelude.{ℕ, ◌+◌, ◌==◌, ◌&&◌, Bool, List, [], ◌∷◌, Option, Some, None, Result, Ok, Err, codes, count_by, drop, length, map, not, slice_index_or, take, if◌then◌else◌}
 use Rattle.std.specs.List.{list_all, position_or_len}
 use Rattle.std.specs.Str.{bytes_eq, is_utf8}
 use Rattle.csv.specs.Reading.{default_config, records}
+use Rattle.voy_schema.specs.Parts.{in_front}
 use Rattle.voy_schema.specs.Rows.{has_whole_key}
 use Rattle.voy_schema.specs.Values.{is_lawful_value}
 use Rattle.voy_schema.specs.declared.table.Column.{Column}
@@ -32,11 +33,6 @@ value_of (b ∷ bs) = if b == 92 then value_behind bs else Some (Text (b ∷ bs)
 abbrev pub if_lawful : Kind → Option Value → Option Value
 if_lawful kind None = None
 if_lawful kind (Some v) = if is_lawful_value kind v then Some v else None
-
-abbrev pub in_front : Option Value → Option (List Value) → Option (List Value)
-in_front None row = None
-in_front (Some v) None = None
-in_front (Some v) (Some row) = Some (v ∷ row)
 
 -- a lawful value of each column, from the fields in the columns' order
 abbrev pub row_of : List Column → List (List ℕ) → Option (List Value)
@@ -127,17 +123,26 @@ abbrev pub without_mark : List ℕ → List ℕ
 without_mark bytes = if begins_with_mark bytes then drop 3 bytes else bytes
 
 -- what a recorded text reads as: one mark is dropped, and a second one is refused before any record is read
-unfoldable pub recorded_reading : Table → List ℕ → Result (List (List Value)) RowError
-recorded_reading t bytes =
+unfoldable pub recorded_rows : Table → List ℕ → Result (List (List Value)) RowError
+recorded_rows t bytes =
     if begins_with_mark (without_mark bytes) then Err (Bad 1 why.Header)
     else headed_reading t (records default_config (without_mark bytes))
 
--- why one record was refused
-abbrev pub IsWhy : Result (List Value) RowWhy → RecordError → Type 0
-IsWhy reading (Refused cause) = reading ≡ Err cause
-IsWhy reading record_error.NoMemory = ⊤
+-- the text of a why
+unfoldable pub row_why_text : RowWhy → List ℕ
+row_why_text why.Fields = codes "wrong number of fields"
+row_why_text why.Utf8 = codes "not utf-8"
+row_why_text why.Header = codes "bad header"
+row_why_text why.BadValue = codes "bad value"
+row_why_text why.NullKey = codes "null key"
+row_why_text why.TooLong = codes "too long"
 
--- why something was not read: for what its text reads as, or for want of memory
-abbrev pub IsCause : {A : Type 0} → Result A RowError → RowError → Type 0
-IsCause reading (Bad line cause) = reading ≡ Err (Bad line cause)
-IsCause reading NoMemory = ⊤
+-- why one record was refused; no cause for want of memory
+abbrev pub why_of : RecordError → Option RowWhy
+why_of (Refused cause) = Some cause
+why_of record_error.NoMemory = None
+
+-- the record and the cause for which something was not read; none for want of memory
+abbrev pub cause_of : RowError → Option RowError
+cause_of (Bad line cause) = Some (Bad line cause)
+cause_of NoMemory = None

@@ -1,5 +1,6 @@
-use std::alloc::AllocError;
-use voy_schema::{Copies, Items, Row, Rows};
+use crate::keys::key_of;
+use std::alloc::{AllocError, Global};
+use voy_schema::{Copies, Items, Key, Row, Rows, Table};
 
 /// Which store an import fills.
 #[derive(Clone, Copy, Debug, PartialEq, Eq)]
@@ -65,8 +66,9 @@ impl From<AllocError> for PlainError {
 }
 
 impl Change {
-    ghost use Rattle.std.specs.Prelude.{◌≡◌};
-    ghost use Rattle.voy_tables.specs.Changes.{table_of};
+    ghost use Rattle.std.specs.Prelude.{◌≡◌, IfOk};
+    ghost use Rattle.std.specs.Option.{option_copied};
+    ghost use Rattle.voy_tables.specs.Changes.{after_of, before_of, key_changed, table_of};
 
     /// The place of its table in the schema.
     pub fn table(&self) -> u32
@@ -76,6 +78,40 @@ impl Change {
             Change::Insert { table, .. } => *table,
             Change::Update { table, .. } => *table,
             Change::Delete { table, .. } => *table,
+        }
+    }
+
+    /// The row before it. `None` for an insert.
+    pub fn before(&self) -> Option<&Row>
+        ensures { option_copied result ≡ before_of self.now }
+    {
+        match self {
+            Change::Insert { .. } => None,
+            Change::Update { before, .. } => Some(before),
+            Change::Delete { before, .. } => Some(before),
+        }
+    }
+
+    /// The row after it. `None` for a delete.
+    pub fn after(&self) -> Option<&Row>
+        ensures { option_copied result ≡ after_of self.now }
+    {
+        match self {
+            Change::Insert { after, .. } => Some(after),
+            Change::Update { after, .. } => Some(after),
+            Change::Delete { .. } => None,
+        }
+    }
+
+    /// The key of the row that it changes, where `table` is its table. An update keeps its key, so that
+    /// this is the key of both rows.
+    pub fn key(&self, alloc: Global, table: &Table) -> Result<Key, AllocError>
+        ensures { IfOk result (λ key. key ≡ key_changed table.now self.now) }
+    {
+        match self {
+            Change::Insert { after, .. } => key_of(alloc, table, after),
+            Change::Update { before, .. } => key_of(alloc, table, before),
+            Change::Delete { before, .. } => key_of(alloc, table, before),
         }
     }
 }

@@ -1,12 +1,12 @@
 ghost use Rattle.std.specs.Prelude.{◌≡◌, ◌^◌, ◌<◌, Some, None, length, option_map};
 ghost use Rattle.std.specs.Option.{option_copied};
-ghost use Rattle.voy_schema.specs.Rows.{counting_tuple, counts, key_of, values_at};
-ghost use Rattle.voy_tables.specs.Keys.{same_tuple, same_values};
-ghost use Rattle.voy_tables.specs.Lists.{is_taken, misfit_by, misfit_in, row_with_key, unique_misfit};
+ghost use Rattle.voy_schema.specs.Rows.{counting_tuple, key_of};
+ghost use Rattle.voy_tables.specs.Lists.{is_taken, misfit_by, misfit_in, row_with_key, stands_elsewhere, unique_misfit};
 
 use crate::change::{Change, Misfit};
-use crate::keys::{has_same_key, text_in};
-use voy_schema::{Row, Same, Table, UniqueKey};
+use crate::keys::has_same_key;
+use crate::tuples::{has_counting_tuple, have_same_tuple};
+use voy_schema::{Row, Table, UniqueKey};
 
 /// Why a change of `table`, whose rows these are, does not fit; nothing where it fits.
 pub(crate) fn find_misfit(table: &Table, change: &Change, rows: &[Row]) -> Option<Misfit>
@@ -38,7 +38,7 @@ fn find_standing_misfit(table: &Table, before: &Row, rows: &[Row]) -> Option<Mis
     match find_row(table, before, rows) {
         None => Some(Misfit::NoRow),
         Some(there) => {
-            if there.same(before) {
+            if *there == *before {
                 None
             } else {
                 Some(Misfit::OtherRow)
@@ -72,44 +72,27 @@ fn find_unique_misfit(table: &Table, like: &Row, after: &Row, rows: &[Row]) -> O
     None
 }
 
-/// Whether a row of another key than that of `like` has the tuple of `after`.
+/// Whether the tuple of `after` counts, and a row of another key than that of `like` has the same.
 fn is_tuple_taken(table: &Table, unique: &UniqueKey, like: &Row, after: &Row, rows: &[Row]) -> bool
     ensures { result ≡ is_taken table.now (key_of table.now like.now) (Some after.now) rows.now unique.now }
 {
+    has_counting_tuple(unique, after) && stands_elsewhere(table, unique, like, after, rows)
+}
+
+/// Whether a row of another key than that of `like` has the tuple of `after`, or no tuple as it has none.
+fn stands_elsewhere(
+    table: &Table,
+    unique: &UniqueKey,
+    like: &Row,
+    after: &Row,
+    rows: &[Row],
+) -> bool
+    ensures { result ≡ stands_elsewhere table.now (key_of table.now like.now) (counting_tuple unique.now (Some after.now)) rows.now unique.now }
+{
     for row in rows {
-        if !has_same_key(table, row, like) && shares_tuple(unique, after, row) {
+        if !has_same_key(table, row, like) && have_same_tuple(unique, after, row) {
             return true;
         }
     }
     false
-}
-
-/// Whether the tuples of both rows count and are the same.
-fn shares_tuple(unique: &UniqueKey, a: &Row, b: &Row) -> bool
-    ensures { result ≡ same_tuple (counting_tuple unique.now (Some a.now)) (counting_tuple unique.now (Some b.now)) }
-{
-    has_counting_tuple(unique, a) && has_counting_tuple(unique, b) && has_same_tuple(unique, a, b)
-}
-
-/// Whether the tuple of `row` counts: none of its values is NULL.
-fn has_counting_tuple(unique: &UniqueKey, row: &Row) -> bool
-    ensures { result ≡ counts unique.now (values_at row.now unique.now.columns) }
-{
-    for place in unique.columns.as_slice() {
-        if text_in(row, *place).is_none() {
-            return false;
-        }
-    }
-    true
-}
-
-fn has_same_tuple(unique: &UniqueKey, a: &Row, b: &Row) -> bool
-    ensures { result ≡ same_values (values_at a.now unique.now.columns) (values_at b.now unique.now.columns) }
-{
-    for place in unique.columns.as_slice() {
-        if text_in(a, *place) != text_in(b, *place) {
-            return false;
-        }
-    }
-    true
 }

@@ -2,7 +2,8 @@ ghost use Rattle.std.specs.Prelude.{◌≡◌, ◌≤◌, Ok, count_by, length, 
 ghost use Rattle.std.specs.List.{position_or_len};
 ghost use Rattle.std.specs.Str.{bytes_eq};
 ghost use Rattle.csv.specs.Records.{fields_of};
-ghost use Rattle.voy_tables.specs.Readings.{IsCause, header_reading, names_reading};
+ghost use Rattle.voy_schema.specs.Refusal.{Refuses};
+ghost use Rattle.voy_tables.specs.Readings.{cause_of, header_reading, names_reading};
 
 use crate::row_error::{RowError, RowWhy};
 use crate::text_record::{field_at, into_text};
@@ -20,7 +21,7 @@ pub(crate) fn read_header(
     header: ByteRecord,
 ) -> Result<Items<usize>, RowError>
     ensures ok { IfOk result (λ places. header_reading table.now (fields_of header) ≡ Ok places) }
-    ensures err { IfErr result (IsCause (header_reading table.now (fields_of header))) }
+    ensures err { IfErr result (Refuses cause_of (header_reading table.now (fields_of header))) }
 {
     match into_text(header) {
         Some(header) => find_places(alloc, table, &header),
@@ -35,7 +36,7 @@ fn find_places(
     header: &StringRecord,
 ) -> Result<Items<usize>, RowError>
     ensures ok { IfOk result (λ places. names_reading table.now (fields_of header.now) ≡ Ok places) }
-    ensures err { IfErr result (IsCause (names_reading table.now (fields_of header.now))) }
+    ensures err { IfErr result (Refuses cause_of (names_reading table.now (fields_of header.now))) }
 {
     if header.len() != table.columns.len() {
         return Err(refused(RowWhy::Header));

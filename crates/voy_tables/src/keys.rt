@@ -46,14 +46,15 @@ pub(crate) fn has_same_key(table: &Table, a: &Row, b: &Row) -> bool
     true
 }
 
-fn key_text(row: &Row, place: u32) -> &str
+/// The text of a row in the column at `place`, empty where it is NULL.
+pub fn key_text(row: &Row, place: u32) -> &str
     ensures { result.now ≡ text_of (value_at row.now place) }
 {
     text_in(row, place).unwrap_or("")
 }
 
 /// The text of a row in the column at `place`, or nothing where it is NULL.
-pub(crate) fn text_in(row: &Row, place: u32) -> Option<&str>
+pub fn text_in(row: &Row, place: u32) -> Option<&str>
     ensures { option_copied result ≡ known_text (value_at row.now place) }
 {
     match row.get(place as usize) {

@@ -1,5 +1,5 @@
-ghost use Rattle.voy_tables.specs.Laws.{EmptyListsHaveNoRows, FoldsAgree, ListsAreTables, MisfitIsNoneWhereItFits};
-ghost use Rattle.voy_tables.specs.RowLaws.{RecordedRowsAreLawful, RowTextReadsBack, RowsReadBack};
+ghost use Rattle.voy_tables.specs.Laws.{ChangeKeepsClean, EmptyListsHaveNoRows, FoldsAgree, ListsAreTables, MisfitIsNoneWhereItFits, RowFoldsAgree, SpotsCompare, TestsDecideEquality};
+ghost use Rattle.voy_tables.specs.RowLaws.{CutRowsAreTheNext, RecordedRowsAreLawful, RowTextIsNotEmpty, RowTextReadsBack, RowTextsAreNoFronts, RowTextsJoin, RowsReadBack};
 
 /// Law: a well-formed change does the same to lists of rows as to the tables that they are, and their
 /// rows stay lawful and in strictly ascending order of their keys.
@@ -36,4 +36,46 @@ pub fn row_text_reads_back()
 /// Law: rows that are read of a recorded text are lawful for the table and within the limit.
 pub fn recorded_rows_are_lawful()
     ensures { RecordedRowsAreLawful }
+{}
+
+/// Law: many lawful rows, inserted one after the other, do the same to lists of rows as to the tables.
+pub fn row_folds_agree()
+    ensures { RowFoldsAgree }
+{}
+
+/// Law: a change that fits clean tables leaves them clean.
+pub fn change_keeps_clean()
+    ensures { ChangeKeepsClean }
+{}
+
+/// Law: the tests for the same key, values, tuple and row say exactly that both are equal.
+pub fn tests_decide_equality()
+    ensures { TestsDecideEquality }
+{}
+
+/// Law: a [`crate::Spot`] comes before another by its commit, and within one commit by its seq.
+pub fn spots_compare()
+    ensures { SpotsCompare }
+{}
+
+/// Law: the text of rows is that of the first ones, and behind it that of the others.
+pub fn row_texts_join()
+    ensures { RowTextsJoin }
+{}
+
+/// Law: the text of a row is not empty.
+pub fn row_text_is_not_empty()
+    ensures { RowTextIsNotEmpty }
+{}
+
+/// Law: of the texts of two lawful rows of a table, neither is a front of the other, but where both are
+/// one row.
+pub fn row_texts_are_no_fronts()
+    ensures { RowTextsAreNoFronts }
+{}
+
+/// Law: what stands in the text of lawful rows behind the text of some lawful rows is the text of the
+/// next rows.
+pub fn cut_rows_are_the_next()
+    ensures { CutRowsAreTheNext }
 {}

@@ -29,17 +29,21 @@ mod row_error;
 mod row_size;
 mod row_text;
 mod text_record;
+mod tuples;
 
 pub use ascending::rows_ascend;
 pub use change::{Change, Misfit, PlainError, Role, RowLists, Side, Spot};
 pub use forming::well_formed;
-pub use keys::key_of;
+pub use keys::{key_of, key_text, text_in};
 pub use laws::{
-    empty_lists_have_no_rows, folds_agree, lists_are_tables, misfit_is_none_where_it_fits,
-    recorded_rows_are_lawful, row_text_reads_back, rows_read_back,
+    change_keeps_clean, cut_rows_are_the_next, empty_lists_have_no_rows, folds_agree,
+    lists_are_tables, misfit_is_none_where_it_fits, recorded_rows_are_lawful, row_folds_agree,
+    row_text_is_not_empty, row_text_reads_back, row_texts_are_no_fronts, row_texts_join,
+    rows_read_back, spots_compare, tests_decide_equality,
 };
 pub use plain::Plain;
 pub use reading::{read_recorded, read_rows};
 pub use row_error::{RowError, RowWhy};
 pub use row_size::{MAX_ROW_TEXT_BYTES, row_text_is_too_long};
 pub use row_text::write_row;
+pub use tuples::{has_counting_tuple, have_same_tuple};

@@ -2,7 +2,8 @@ ghost use Rattle.std.specs.Prelude.{◌≡◌, ◌≤◌, Ok, length, IfErr, IfO
 ghost use Rattle.std.specs.List.{range_with_len};
 ghost use Rattle.csv.specs.Reading.{default_config, records};
 ghost use Rattle.csv.specs.Records.{fields_of};
-ghost use Rattle.voy_tables.specs.Readings.{IsCause, begins_with_mark, behind_header, headed_reading, header_reading, fields_at, first_misplaced, record_reading, recorded_reading, records_reading, rows_reading, without_mark};
+ghost use Rattle.voy_schema.specs.Refusal.{Refuses};
+ghost use Rattle.voy_tables.specs.Readings.{cause_of, begins_with_mark, behind_header, headed_reading, header_reading, fields_at, first_misplaced, record_reading, recorded_rows, records_reading, rows_reading, without_mark};
 
 use crate::header::{read_header, refused};
 use crate::record_reader::{MARK, Records};
@@ -21,7 +22,7 @@ use voy_schema::{Bytes, Items, Row, Rows, Table};
 #[tactic(auto, unfolding(crate::specs::Readings::rows_reading))]
 pub fn read_rows(alloc: Global, table: &Table, bytes: &[u8]) -> Result<Rows, RowError>
     ensures ok { IfOk result (λ rows. rows_reading table.now bytes.now ≡ Ok rows) }
-    ensures err { IfErr result (IsCause (rows_reading table.now bytes.now)) }
+    ensures err { IfErr result (Refuses cause_of (rows_reading table.now bytes.now)) }
 {
     let rows = read_in_order(alloc, table, bytes)?;
     match find_misplaced(alloc, rows.as_slice(), bytes)? {
@@ -36,7 +37,7 @@ pub fn read_rows(alloc: Global, table: &Table, bytes: &[u8]) -> Result<Rows, Row
 /// The rows of a text whose records have the fields in the order of the table's columns.
 fn read_in_order(alloc: Global, table: &Table, bytes: &[u8]) -> Result<Rows, RowError>
     ensures ok { IfOk result (λ rows. records_reading (record_reading table.now (λ fields. fields)) 1 (records default_config bytes.now) ≡ Ok rows) }
-    ensures err { IfErr result (IsCause (records_reading (record_reading table.now (λ fields. fields)) 1 (records default_config bytes.now))) }
+    ensures err { IfErr result (Refuses cause_of (records_reading (record_reading table.now (λ fields. fields)) 1 (records default_config bytes.now))) }
 {
     let places = places_in_order(alloc, table.columns.len())?;
     let mut records = Records::new(alloc, bytes);
@@ -47,10 +48,10 @@ fn read_in_order(alloc: Global, table: &Table, bytes: &[u8]) -> Result<Rows, Row
 ///
 /// One byte order mark before it is dropped. The error has the first record that is refused, the header
 /// being record 1, and its first cause.
-#[tactic(auto, unfolding(crate::specs::Readings::recorded_reading))]
+#[tactic(auto, unfolding(crate::specs::Readings::recorded_rows))]
 pub fn read_recorded(alloc: Global, table: &Table, bytes: &[u8]) -> Result<Rows, RowError>
-    ensures ok { IfOk result (λ rows. recorded_reading table.now bytes.now ≡ Ok rows) }
-    ensures err { IfErr result (IsCause (recorded_reading table.now bytes.now)) }
+    ensures ok { IfOk result (λ rows. recorded_rows table.now bytes.now ≡ Ok rows) }
+    ensures err { IfErr result (Refuses cause_of (recorded_rows table.now bytes.now)) }
 {
     let text = skip_mark(bytes);
     if starts_with_mark(text) {
@@ -62,7 +63,7 @@ pub fn read_recorded(alloc: Global, table: &Table, bytes: &[u8]) -> Result<Rows,
 /// The rows of a text whose first record is a header.
 fn read_headed(alloc: Global, table: &Table, text: &[u8]) -> Result<Rows, RowError>
     ensures ok { IfOk result (λ rows. headed_reading table.now (records default_config text.now) ≡ Ok rows) }
-    ensures err { IfErr result (IsCause (headed_reading table.now (records default_config text.now))) }
+    ensures err { IfErr result (Refuses cause_of (headed_reading table.now (records default_config text.now))) }
 {
     let mut records = Records::new(alloc, text);
     match records.next_record()? {
@@ -79,7 +80,7 @@ fn read_behind(
     records: &mut Records,
 ) -> Result<Rows, RowError>
     ensures ok { IfOk result (λ rows. behind_header table.now (header_reading table.now (fields_of header)) records.old ≡ Ok rows) }
-    ensures err { IfErr result (IsCause (behind_header table.now (header_reading table.now (fields_of header)) records.old)) }
+    ensures err { IfErr result (Refuses cause_of (behind_header table.now (header_reading table.now (fields_of header)) records.old)) }
 {
     let places = read_header(alloc, table, header)?;
     read_records(alloc, table, places.as_slice(), records, 2)
@@ -96,7 +97,7 @@ fn read_records(
     requires places { length places.now ≡ length table.now.columns }
     requires first { first ≤ 2 }
     ensures ok { IfOk result (λ rows. records_reading (record_reading table.now (fields_at places.now)) first records.old ≡ Ok rows) }
-    ensures err { IfErr result (IsCause (records_reading (record_reading table.now (fields_at places.now)) first records.old)) }
+    ensures err { IfErr result (Refuses cause_of (records_reading (record_reading table.now (fields_at places.now)) first records.old)) }
 {
     let mut rows = Rows::new(alloc);
     while let Some(line) = records.next_record()? {

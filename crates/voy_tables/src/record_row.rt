@@ -1,6 +1,7 @@
 ghost use Rattle.std.specs.Prelude.{◌≡◌, Ok, Some, length, IfErr, IfOk};
 ghost use Rattle.csv.specs.Records.{fields_of};
-ghost use Rattle.voy_tables.specs.Readings.{IsWhy, fields_at, record_reading, row_of, row_reading};
+ghost use Rattle.voy_schema.specs.Refusal.{Refuses};
+ghost use Rattle.voy_tables.specs.Readings.{why_of, fields_at, record_reading, row_of, row_reading};
 
 use crate::field_value::read_value;
 use crate::row_error::{RecordError, RowWhy};
@@ -19,7 +20,7 @@ pub(crate) fn read_record(
 ) -> Result<Row, RecordError>
     requires { length places.now ≡ length table.now.columns }
     ensures ok { IfOk result (λ row. record_reading table.now (fields_at places.now) (fields_of line) ≡ Ok row) }
-    ensures err { IfErr result (IsWhy (record_reading table.now (fields_at places.now) (fields_of line))) }
+    ensures err { IfErr result (Refuses why_of (record_reading table.now (fields_at places.now) (fields_of line))) }
 {
     if line.len() != table.columns.len() {
         return Err(RecordError::Refused(RowWhy::Fields));
@@ -39,7 +40,7 @@ fn read_text_record(
 ) -> Result<Row, RecordError>
     requires { length places.now ≡ length table.now.columns }
     ensures ok { IfOk result (λ row. row_reading table.now (row_of table.now.columns (fields_at places.now (fields_of line.now))) ≡ Ok row) }
-    ensures err { IfErr result (IsWhy (row_reading table.now (row_of table.now.columns (fields_at places.now (fields_of line.now))))) }
+    ensures err { IfErr result (Refuses why_of (row_reading table.now (row_of table.now.columns (fields_at places.now (fields_of line.now))))) }
 {
     match read_values(alloc, table.columns.as_slice(), places, line)? {
         Some(row) => check_row(table, row),
@@ -50,7 +51,7 @@ fn read_text_record(
 /// The row itself, where its key is whole and its text not too long.
 fn check_row(table: &Table, row: Row) -> Result<Row, RecordError>
     ensures ok { IfOk result (λ same. row_reading table.now (Some row) ≡ Ok same) }
-    ensures err { IfErr result (IsWhy (row_reading table.now (Some row))) }
+    ensures err { IfErr result (Refuses why_of (row_reading table.now (Some row))) }
 {
     if !has_whole_key(table, &row) {
         Err(RecordError::Refused(RowWhy::NullKey))

@@ -18,6 +18,26 @@ pub enum RowWhy {
     TooLong,
 }
 
+impl RowWhy {
+    ghost use Rattle.std.specs.Prelude.{◌≡◌};
+    ghost use Rattle.voy_tables.specs.Readings.{row_why_text};
+
+    /// The text for a message.
+    #[tactic(auto, unfolding(crate::specs::Readings::row_why_text))]
+    pub fn text(self) -> &'static str
+        ensures { result.now ≡ row_why_text self }
+    {
+        match self {
+            RowWhy::Fields => "wrong number of fields",
+            RowWhy::Utf8 => "not utf-8",
+            RowWhy::Header => "bad header",
+            RowWhy::BadValue => "bad value",
+            RowWhy::NullKey => "null key",
+            RowWhy::TooLong => "too long",
+        }
+    }
+}
+
 /// Why rows could not be read.
 #[derive(Clone, Copy, Debug, PartialEq, Eq)]
 pub enum RowError {

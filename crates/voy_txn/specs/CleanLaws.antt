@@ -1,20 +1,18 @@
 -- Changes that fit keep tables clean, and so do transactions.
-use Rattle.std.specs.Prelude.{◌≡◌, ◌≢◌, ℕ, suc, Bool, true, false, List, [], ◌∷◌, Option, Some, None, map, refl, ◌==◌, slice_get, if◌then◌else◌}
-use Rattle.std.specs.Bool.{Decides}
-use Rattle.std.specs.Cmp.Lexicographic.{bytes_decides, pointwise_decides}
+use Rattle.std.specs.Prelude.{◌≡◌, ℕ, suc, true, List, [], ◌∷◌, Option, Some, None, map, refl, slice_get}
 use Rattle.std.specs.List.{list_all}
 use Rattle.std.proofs.Common.{ap, subst, sym, ◌∙◌}
-use Rattle.std.proofs.lemmas.Bool.{and_from, and_parts, eqb-true, eq-eqb, false≢true}
+use Rattle.std.proofs.lemmas.Bool.{and_parts}
 use Rattle.voy_schema.specs.Rows.{tuple_of}
 use Rattle.voy_schema.specs.declared.table.Table.{Table}
 use Rattle.voy_schema.specs.declared.table.UniqueKey.{UniqueKey}
 use Rattle.voy_schema.specs.declared.value.Value.{Value}
-use Rattle.voy_tables.specs.Changes.{RowChange, RowId, is_well_formed, row_change}
-use Rattle.voy_tables.specs.Keys.{same_key}
+use Rattle.voy_tables.specs.Changes.{is_well_formed, row_change}
+use Rattle.voy_tables.specs.CleanLaws.{change_keeps_clean}
 use Rattle.voy_tables.specs.Laws.{EmptyListsHaveNoRows, IsDone, ListsAreTables, MisfitIsNoneWhereItFits}
 use Rattle.voy_tables.specs.Lists.{empty_lists, fold_lists, lists_after, look, misfit_of}
 use Rattle.voy_tables.specs.Standing.{are_tables}
-use Rattle.voy_tables.specs.Tables.{Fits, IsClean, Tables, do_change, same_row_id, tuple_in}
+use Rattle.voy_tables.specs.Tables.{Fits, IsClean, do_change, tuple_in}
 use Rattle.voy_tables.specs.declared.change.Change.{Change}
 use Rattle.voy_tables.specs.declared.change.Misfit.{Misfit}
 use Rattle.voy_txn.specs.Commits.{AreCleanTables}
@@ -25,47 +23,6 @@ use Rattle.voy_txn.specs.LawfulTxn.{IsLawfulTxn}
 use Rattle.voy_txn.specs.LoadLaws.{items_are_well_formed, load_sets_rows}
 use Rattle.voy_txn.specs.declared.txn.Txn.{Txn}
 use Rattle.voy_txn.specs.declared.txn.Txn.TheVariants.{Load, Batch, Events}
-
-same_key-decides : (a b : List (List ℕ)) → Decides (same_key a b) (a ≡ b)
-unfolding same_key
-same_key-decides = pointwise_decides bytes_decides
-
-same_row_id-decides : (p q : RowId) → Decides (same_row_id p q) (p ≡ q)
-unfolding same_row_id
-same_row_id-decides p q = (there, back) where
-  there : same_row_id p q ≡ true → p ≡ q
-  there h = λ i. record { table = eqb-true p.table q.table (and_parts (p.table == q.table) (same_key p.key q.key) h).0 i; key = (same_key-decides p.key q.key).0 (and_parts (p.table == q.table) (same_key p.key q.key) h).1 i }
-
-  back : p ≡ q → same_row_id p q ≡ true
-  back e = and_from (p.table == q.table) (same_key p.key q.key) (eq-eqb p.table q.table (ap (λ (r : RowId). r.table) e)) ((same_key-decides p.key q.key).1 (ap (λ (r : RowId). r.key) e))
-
--- a change that fits clean tables leaves them clean
-pub change_keeps_clean : (schema : List Table) (c : RowChange) (tables : Tables) → IsClean schema tables → Fits schema c tables → IsClean schema (do_change c tables)
-change_keeps_clean schema c tables clean fits p q unique values same_table has_p has_q =
-    by (same_row_id p c.row) refl (same_row_id q c.row) refl has_p has_q
-  where
-    at : Bool → RowId → Option (List Value)
-    at b id = if b then c.after else tables id
-
-    here : (id : RowId) → same_row_id id c.row ≡ true → id ≡ c.row
-    here id h = (same_row_id-decides id c.row).0 h
-
-    elsewhere : (id : RowId) → same_row_id id c.row ≡ false → id ≢ c.row
-    elsewhere id h e = false≢true (sym h ∙ (same_row_id-decides id c.row).1 e)
-
-    new_and_old : (new old : RowId) → same_row_id new c.row ≡ true → same_row_id old c.row ≡ false → old.table ≡ new.table
-        → tuple_in schema new.table unique c.after ≡ Some values → tuple_in schema old.table unique (tables old) ≡ Some values → ⊥
-    new_and_old new old is other same has_new has_old =
-        let new_table : new.table ≡ c.row.table = ap (λ (r : RowId). r.table) (here new is) in
-        fits.unique old unique values (same ∙ new_table) (elsewhere old other)
-        (subst (λ t. tuple_in schema t unique c.after ≡ Some values) new_table has_new) has_old
-
-    by : (bp : Bool) → same_row_id p c.row ≡ bp → (bq : Bool) → same_row_id q c.row ≡ bq
-        → tuple_in schema p.table unique (at bp p) ≡ Some values → tuple_in schema q.table unique (at bq q) ≡ Some values → p ≡ q
-    by true ip true iq hp hq = here p ip ∙ sym (here q iq)
-    by true ip false iq hp hq = absurd (new_and_old p q ip iq (sym same_table) hp hq)
-    by false ip true iq hp hq = absurd (new_and_old q p iq ip same_table hq hp)
-    by false ip false iq hp hq = clean p q unique values same_table hp hq
 
 -- where no item of these has a misfit, the first has none
 pub first_fits : (found : Option Misfit) (at : ℕ) (later : Option (ℕ × Misfit)) → first_of found at later ≡ None → (found ≡ None) × (later ≡ None)

@@ -154,7 +154,7 @@ reading_behind (Some behind) = or_rest behind.0 (command_of behind.0 behind.1)
 unfoldable pub reading : List (List ℕ) → Result Command Usage
 reading words = reading_behind (found phrases words)
 
--- an answer other than a command: that of the reading, or want of memory
-abbrev pub Refuses : Result Command Usage → WordsError → Type 0
-Refuses read (error.Usage why) = read ≡ Err why
-Refuses read error.NoMemory = ⊤
+-- what words lack, where an answer names it
+abbrev pub cause_of : WordsError → Option Usage
+cause_of (error.Usage why) = Some why
+cause_of error.NoMemory = None

@@ -2,7 +2,8 @@ ghost use Rattle.std.specs.Prelude.{◌≡◌, IfErr, IfOk, map, option_and_then
 ghost use Rattle.std.specs.List.{list_any};
 ghost use Rattle.clap.specs.Matches.{found_of};
 ghost use Rattle.clap.specs.Walk.{Row, rows_of};
-ghost use Rattle.voy_words.specs.Reading.{Refuses, command_by, command_of, is_dashes, reading};
+ghost use Rattle.voy_schema.specs.Refusal.{Refuses};
+ghost use Rattle.voy_words.specs.Reading.{cause_of, command_by, command_of, is_dashes, reading};
 
 use crate::asked::Command;
 use crate::commands::command_by;
@@ -21,7 +22,7 @@ use std::alloc::{AllocError, Global};
 #[tactic(auto, unfolding(crate::specs::Reading::reading))]
 pub fn read_words(alloc: Global, words: &[String]) -> Result<Command, WordsError>
     ensures ok { IfOk result (λ command. reading (map string_bytes words.now) ≡ Ok command) }
-    ensures err { IfErr result (Refuses (reading (map string_bytes words.now))) }
+    ensures err { IfErr result (Refuses cause_of (reading (map string_bytes words.now))) }
 {
     let Some((phrase, rest)) = find_phrase(words) else {
         return Err(WordsError::Usage(Usage::Phrase));

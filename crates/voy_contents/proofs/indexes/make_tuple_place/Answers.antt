@@ -1,4 +1,4 @@
-use Rattle.std.proofs.Common.{Some, OnOk, ap, subst, sym, ◌∙◌}
+use Rattle.std.proofs.Common.{OnOk, subst, sym}
 use Rattle.voy_contents.proofs.PlaceLemmas.{made_keeps, made_there}
 use Rattle.voy_contents.specs.MemTables.{HasPlace}
 use Rattle.voy_contents.proofs.indexes.make_tuple_place.Goals as goal

@@ -5,7 +5,8 @@ use Rattle.voy_event.specs.EventLine.{line_reading}
 use Rattle.voy_event.specs.InTurn.{line_in_turn}
 use Rattle.voy_event.specs.InTurnLaws.{line_is_in_turn}
 use Rattle.voy_event.specs.LawfulEvent.{IsLawful}
-use Rattle.voy_event.specs.Refusal.{Refuses}
+use Rattle.voy_schema.specs.Refusal.{Refuses}
+use Rattle.voy_event.specs.Refusal.{cause_of}
 use Rattle.voy_event.specs.declared.event.Event.{Event}
 use Rattle.voy_event.specs.declared.line_error.LineError.{LineError}
 use Rattle.voy_event.specs.declared.line_error.LineError.TheVariants.{Bad, NoMemory}
@@ -17,7 +18,7 @@ read_ok tables bytes (Ok e) read = line_is_in_turn tables bytes ∙ read
 read_ok tables bytes (Err cause) read = tt
 
 read_err : (tables : List Table) (bytes : List ℕ) (r : Result Event LineError)
-    → IfErr r (Refuses (line_in_turn tables bytes)) → IfErr r (Refuses (line_reading tables bytes))
+    → IfErr r (Refuses cause_of (line_in_turn tables bytes)) → IfErr r (Refuses cause_of (line_reading tables bytes))
 read_err tables bytes (Ok e) refused = tt
 read_err tables bytes (Err (Bad cause)) refused = line_is_in_turn tables bytes ∙ refused
 read_err tables bytes (Err NoMemory) refused = tt

@@ -4,20 +4,21 @@ use Rattle.voy_event.specs.InTurn.{recorded_in_turn}
 use Rattle.voy_event.specs.InTurnLaws.{recorded_is_in_turn}
 use Rattle.voy_event.specs.LawfulEvent.{IsLawfulChange}
 use Rattle.voy_event.specs.RecordedLaws.{recorded_is_lawful}
-use Rattle.voy_event.specs.RecordedLine.{recorded_reading}
-use Rattle.voy_event.specs.Refusal.{Refuses}
+use Rattle.voy_event.specs.RecordedLine.{recorded_line_reading}
+use Rattle.voy_schema.specs.Refusal.{Refuses}
+use Rattle.voy_event.specs.Refusal.{cause_of}
 use Rattle.voy_event.specs.declared.recorded.Recorded.{Recorded}
 use Rattle.voy_event.specs.declared.line_error.LineError.{LineError}
 use Rattle.voy_event.specs.declared.line_error.LineError.TheVariants.{Bad, NoMemory}
 use Rattle.voy_event.proofs.recorded_line.read_change.Goals as goal
 
 read_ok : (tables : List Table) (bytes : List ℕ) (r : Result Recorded LineError)
-    → IfOk r (λ e. recorded_in_turn tables bytes ≡ Ok e) → IfOk r (λ e. recorded_reading tables bytes ≡ Ok e)
+    → IfOk r (λ e. recorded_in_turn tables bytes ≡ Ok e) → IfOk r (λ e. recorded_line_reading tables bytes ≡ Ok e)
 read_ok tables bytes (Ok e) read = recorded_is_in_turn tables bytes ∙ read
 read_ok tables bytes (Err cause) read = tt
 
 read_err : (tables : List Table) (bytes : List ℕ) (r : Result Recorded LineError)
-    → IfErr r (Refuses (recorded_in_turn tables bytes)) → IfErr r (Refuses (recorded_reading tables bytes))
+    → IfErr r (Refuses cause_of (recorded_in_turn tables bytes)) → IfErr r (Refuses cause_of (recorded_line_reading tables bytes))
 read_err tables bytes (Ok e) refused = tt
 read_err tables bytes (Err (Bad cause)) refused = recorded_is_in_turn tables bytes ∙ refused
 read_err tables bytes (Err NoMemory) refused = tt

@@ -1,7 +1,9 @@
 use Rattle.std.proofs.Common.{◌+◌, arith}
 use Rattle.std.proofs.lemmas.Result.{on_ok_weaker}
-use Rattle.voy_journal.proofs.Calls.{front_less, front_on, others_on}
+use Rattle.voy_journal.proofs.ExactBytes.{wrote_both}
 use Rattle.voy_journal.proofs.Gates.{gate_there, opened, opened_images, staged, staged_images}
+use Rattle.voy_disk.specs.SafeFileLaws.{front_less, front_on}
+use Rattle.voy_disk.specs.ChangeLaws.{others_on}
 use Rattle.voy_journal.proofs.appending.put_behind.Goals as goal
 
 pub returns-in_err-write_safely-clause-either : goal.returns-in_err-write_safely-clause-either
@@ -33,3 +35,8 @@ returns-clause-front g c =
 
 pub returns-clause-others : goal.returns-clause-others
 returns-clause-others g c = others_on c.in_ok-write_safely.ensures.others c.write_safely-2.ensures.others
+
+pub returns-clause-exact : goal.returns-clause-exact
+returns-clause-exact g c = on_ok_weaker c.write_safely-2.result
+    (wrote_both c.args.name.now c.args.gate c.args.block.now (g.D.Disk.files c.args.disk.now) _ _ c.requires.stands c.in_ok-write_safely.ensures.rewrites)
+    c.write_safely-2.ensures.rewrites

@@ -1,5 +1,5 @@
 use Rattle.voy_disk.specs.ImageLaws.{same_files}
-use Rattle.voy_journal.proofs.Calls.{then_same}
+use Rattle.voy_disk.specs.StepLaws.{then_same}
 use Rattle.voy_journal.proofs.opening.settle.Goals as goal
 
 pub returns-in_err-end-clause-images : goal.returns-in_err-end-clause-images

@@ -1,6 +1,8 @@
 use Rattle.std.proofs.Common.{Err, Ok}
-use Rattle.voy_disk.specs.ImageLaws.{sync_follows}
-use Rattle.voy_journal.proofs.Calls.{change_weaker, front_on, front_written, reads_on, others_after, others_on, room_there, then_same, write_and_sync, write_follows}
+use Rattle.voy_disk.specs.CallLaws.{sync_follows}
+use Rattle.voy_disk.specs.ChangeLaws.{change_weaker, others_after, others_on}
+use Rattle.voy_disk.specs.SafeFileLaws.{front_on, front_written, reads_on, room_there, write_and_sync, write_follows}
+use Rattle.voy_disk.specs.StepLaws.{then_same}
 use Rattle.voy_journal.proofs.storing.write_safely.Goals as goal
 
 pub write_at-requires-clause-there : goal.write_at-requires-clause-there

@@ -1,4 +1,4 @@
-use Rattle.voy_tables.proofs.MisfitLemmas.{unique_misfit-None}
+use Rattle.voy_tables.specs.MisfitLaws.{unique_misfit-None}
 use Rattle.voy_tables.proofs.fitting.find_misfit.Goals as goal
 
 pub returns-in-Delete : goal.returns-in-Delete

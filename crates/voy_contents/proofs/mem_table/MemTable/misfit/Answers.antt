@@ -1,7 +1,7 @@
 use Rattle.std.proofs.Common.{◌≡◌, Option, Some, None, false, is_some, refl, ap, sym, ◌∙◌}
-use Rattle.voy_contents.proofs.MisfitLemmas.{stands_as_said}
+use Rattle.voy_tables.specs.MisfitLaws.{stands_as_said}
 use Rattle.voy_contents.specs.MemTables.{rows_of, tuples_of}
-use Rattle.voy_contents.specs.Steps.{before_of}
+use Rattle.voy_tables.specs.Changes.{before_of}
 use Rattle.voy_tables.specs.Lists.{row_with_key}
 use Rattle.voy_tables.specs.declared.change.Misfit.{Misfit}
 use Rattle.voy_contents.proofs.mem_table.MemTable.misfit.Goals as goal

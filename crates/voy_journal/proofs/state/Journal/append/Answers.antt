@@ -1,9 +1,10 @@
 use Rattle.std.proofs.Common.{◌≡◌, ◌∙◌, List, ℕ, refl, subst, sym, length}
-use Rattle.voy_disk.specs.ImageLaws.{change_stays_told}
 use Rattle.voy_journal.specs.Blocks.{IsBlock}
-use Rattle.voy_journal.specs.Journal.{KeepsOtherFiles}
 use Rattle.voy_journal.proofs.Adding.{adds_one, knows_one_more, leaves_prefix, stands_again}
-use Rattle.voy_journal.proofs.Calls.{no_change}
+use Rattle.voy_disk.specs.CallLaws.{change_stays_told}
+use Rattle.voy_disk.specs.Frames.{KeepsOtherFiles}
+use Rattle.voy_disk.specs.ChangeLaws.{no_change}
+use Rattle.voy_journal.proofs.ExactBytes.{appends_entry}
 use Rattle.voy_journal.proofs.state.Journal.append.Goals as goal
 
 pub returns-then-payload-clause-others : goal.returns-then-payload-clause-others
@@ -49,3 +50,8 @@ returns-clause-stands g c = λ live.
 
 pub returns-clause-told : goal.returns-clause-told
 returns-clause-told g c = change_stays_told c.in_ok-put_behind.ensures.others (g.met.D.Disk.reads_an_image c.put_behind.new.disk)
+
+pub returns-clause-exact : goal.returns-clause-exact
+returns-clause-exact g c =
+    appends_entry c.args.self.now.name c.args.self.now.gate c.args.payload.now c.deref.result.now (g.D.Disk.files c.args.disk.now) _ c.requires.stands
+    (subst (λ (block : List ℕ). IsBlock c.args.payload.now block) (sym c.deref.ensures.value) c.in_ok-block.ensures) c.in_ok-put_behind.ensures.exact

@@ -1,5 +1,5 @@
-use Rattle.voy_disk.specs.ImageLaws.{change_stays_told}
 use Rattle.voy_journal.specs.JournalLaws.{stands_in_every, stands_known}
+use Rattle.voy_disk.specs.CallLaws.{change_stays_told}
 use Rattle.voy_journal.proofs.state.Journal.open.Goals as goal
 
 pub returns-in_err-payloads-clause-told : goal.returns-in_err-payloads-clause-told
