@@ -7,6 +7,7 @@ use Rattle.std.specs.Ordering.{nat_cmp}
 use Rattle.std.specs.Str.{bytes_eq}
 use Rattle.voy_disk.specs.File.{File, IsImage, Outside, settled, touch, written}
 use Rattle.voy_disk.specs.Files.{Files}
+use Rattle.voy_disk.specs.Frames.{KeepsOtherFiles}
 use Rattle.voy_disk.specs.Name.{is_name}
 use Rattle.voy_disk.specs.declared.disk.DiskError.{DiskError}
 use Rattle.voy_disk.specs.declared.disk.DiskError.TheVariants.{Failed, NoMemory}
@@ -29,7 +30,8 @@ pub data Change (R : Files → Files → Type 0) : Option Files → Option Files
 
 -- what a call leaves: its change where it answers Ok, this other one where the disk failed, and none
 -- where memory was refused
-abbrev pub Leaves : {T : Type 0} → Result T DiskError → (Files → Files → Type 0) → (Files → Files → Type 0) → Option Files → Option Files → Type 0
+abbrev pub Leaves : {T : Type 0} → Result T DiskError → (Files → Files → Type 0) → (Files → Files → Type 0)
+    → Option Files → Option Files → Type 0
 Leaves (Ok value) done failed old new = Change done old new
 Leaves (Err Failed) done failed old new = Change failed old new
 Leaves (Err NoMemory) done failed old new = new ≡ old
@@ -41,7 +43,7 @@ pub record Changes (R : File → File → Type 0) (name : List ℕ) (old new : F
   pub was : old name ≡ Some before
   pub is : new name ≡ Some after
   pub step : R before after
-  pub others : (other : List ℕ) → other ≢ name → new other ≡ old other
+  pub others : KeepsOtherFiles name old new
 
 -- the same bytes at each place outside the range of n bytes from at
 abbrev pub SameOutside : ℕ → ℕ → List ℕ → List ℕ → Type 0
@@ -81,7 +83,7 @@ or_empty (Some file) = file
 -- the file is there, made empty where the name was free, and every other one stays
 pub record Created (name : List ℕ) (old new : Files) : Type 0 where
   pub is : new name ≡ Some (or_empty (old name))
-  pub others : (other : List ℕ) → other ≢ name → new other ≡ old other
+  pub others : KeepsOtherFiles name old new
 
 -- the file goes by another name, and every other one stays
 pub record Renamed (from to : List ℕ) (old new : Files) : Type 0 where

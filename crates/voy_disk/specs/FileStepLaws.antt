@@ -11,13 +11,16 @@ use Rattle.voy_disk.specs.Steps.{From, Follows, Same}
 
 module _ (x y : Files) (name : List ℕ) where
   -- an image after, with the file of before in place of the changed one
-  image_before : (j : Image) → ((other : List ℕ) → other ≢ name → y other ≡ x other) → IsImageOf y j → (file : Option (List ℕ)) → IsImageAt (x name) file → IsImageOf x (with_file j name file)
+  image_before : (j : Image) → ((other : List ℕ) → other ≢ name → y other ≡ x other) → IsImageOf y j
+      → (file : Option (List ℕ)) → IsImageAt (x name) file → IsImageOf x (with_file j name file)
   image_before j others is file here = at_each_name (λ other. IsImageAt (x other) (with_file j name file other)) name
       (rw (with_file_there j name file) here)
       (λ other differs. rw (with_file_elsewhere j name file other differs, sym (others other differs)) (is other))
 
   -- a step of one file is a step of the disk
-  pub follows_file : {R : File → File → Type 0} {step : List ℕ → List ℕ → Type 0} → Changes R name x y → ((f g : File) → x name ≡ Some f → R f g → Follows step (IsImage f) (IsImage g)) → Follows (StepAt name step) (IsImageOf x) (IsImageOf y)
+  pub follows_file : {R : File → File → Type 0} {step : List ℕ → List ℕ → Type 0} → Changes R name x y
+      → ((f g : File) → x name ≡ Some f → R f g → Follows step (IsImage f) (IsImage g))
+      → Follows (StepAt name step) (IsImageOf x) (IsImageOf y)
   follows_file change law = record {
     from = λ j is.
         let g = image_there (y name) (j name) change.after change.is (is name) in
@@ -37,7 +40,9 @@ module _ (x y : Files) (name : List ℕ) where
   }
 
   -- where the changed file has no image that it did not have, the disk has none either
-  pub same_images : {R : File → File → Type 0} → Changes R name x y → ((f g : File) → x name ≡ Some f → R f g → (bytes : List ℕ) → IsImage g bytes → IsImage f bytes) → Follows Same (IsImageOf x) (IsImageOf y)
+  pub same_images : {R : File → File → Type 0} → Changes R name x y
+      → ((f g : File) → x name ≡ Some f → R f g → (bytes : List ℕ) → IsImage g bytes → IsImage f bytes)
+      → Follows Same (IsImageOf x) (IsImageOf y)
   same_images change law = record {
     from = λ j is. record {
       before = j;
@@ -49,7 +54,8 @@ module _ (x y : Files) (name : List ℕ) where
   }
 
   -- a change of one file leaves the others in each image
-  pub others_stay : {R : File → File → Type 0} → ReadsImages x → Changes R name x y → Follows (SameBut name) (IsImageOf x) (IsImageOf y)
+  pub others_stay : {R : File → File → Type 0} → ReadsImages x → Changes R name x y
+      → Follows (SameBut name) (IsImageOf x) (IsImageOf y)
   others_stay reads change = record {
     from = λ j is. record {
       before = with_file j name (option_map (λ (file : File). file.now) (x name));
@@ -71,7 +77,8 @@ module _ (x y : Files) (name : List ℕ) where
   pub created_images : Created name x y → Follows (λ i j. Same i j ⊎ Makes name i j) (IsImageOf x) (IsImageOf y)
   created_images created = record { from = λ j is. by_file j is (x name) refl }
     where
-      by_file : (j : Image) → IsImageOf y j → (found : Option File) → x name ≡ found → From (λ i k. Same i k ⊎ Makes name i k) (IsImageOf x) j
+      by_file : (j : Image) → IsImageOf y j → (found : Option File) → x name ≡ found
+          → From (λ i k. Same i k ⊎ Makes name i k) (IsImageOf x) j
       by_file j is (Some file) was = record {
         before = j;
         was = at_each_name (λ other. IsImageAt (x other) (j other)) name
@@ -92,7 +99,8 @@ module _ (x y : Files) (name : List ℕ) where
           }
 
   -- what goes by another name goes by it in each image
-  pub renamed_images : (to : List ℕ) → x to ≡ None → Renamed name to x y → Follows (Renames name to) (IsImageOf x) (IsImageOf y)
+  pub renamed_images : (to : List ℕ) → x to ≡ None → Renamed name to x y
+      → Follows (Renames name to) (IsImageOf x) (IsImageOf y)
   renamed_images to free renamed = record {
     from = λ j is.
         let before = with_file (with_file j to None) name (j to) in

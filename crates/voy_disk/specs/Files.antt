@@ -8,17 +8,18 @@ abbrev pub Files : Type 0
 Files = List ℕ → Option File
 
 -- a fact on the files of a disk that tells them; of one that does not, nothing is said
-abbrev pub Told : Option Files → (Files → Type 0) → Type 0
-Told None P = Unit {0}
-Told (Some files) P = P files
-
--- the same as an implication, which proofs find more easily
 abbrev pub IfTold : Option Files → (Files → Type 0) → Type 0
 IfTold files P = (fs : Files) → files ≡ Some fs → P fs
 
--- what is told of the files holds of them
-pub told_at : (files : Option Files) (P : Files → Type 0) → Told files P → IfTold files P
-told_at files P holds fs is = subst (λ told. Told told P) is holds
+-- what holds of the files is told of them
+pub told_of : (files : Files) (P : Files → Type 0) → P files → IfTold (Some files) P
+told_of files P holds fs is = subst P (some_files is) holds where
+  some_files : {x y : Files} → Some x ≡ Some y → x ≡ y
+  some_files {x} {y} same = cc
+
+-- where no files are told, nothing is said
+pub told_none : (P : Files → Type 0) → IfTold None P
+told_none P fs is = cc
 
 -- the length of a file, if it is there
 abbrev pub length_of : Option File → Option ℕ

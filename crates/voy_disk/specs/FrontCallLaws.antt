@@ -1,24 +1,27 @@
 -- Laws of the calls of a disk: what is done behind a front leaves it in each image, whatever the call answers.
-use Rattle.std.proofs.Common.{◌≤◌, ◌-◌, ◌∙◌, ℕ, List, Option, Some, Result, Ok, Err, length, refl, ap, take}
+use Rattle.std.proofs.Common.{◌≤◌, ◌-◌, ◌∙◌, ℕ, List, Option, Result, Ok, Err, length, refl, take}
 use Rattle.voy_disk.specs.CallLaws.{sync_follows}
 use Rattle.voy_disk.specs.Calls.{Change, Changes, CutFailed, Leaves, Smeared, SyncFailed, Synced, WasCut, Wrote, told, untold}
 use Rattle.voy_disk.specs.File.{File, written}
-use Rattle.voy_disk.specs.Files.{Files, IfTold, ReadsImages, Told}
+use Rattle.voy_disk.specs.Files.{Files, IfTold, ReadsImages}
 use Rattle.voy_disk.specs.FrontLaws.{TouchedFrom, front_stays, same_keeps_front}
 use Rattle.voy_disk.specs.Fronts.{HasFront, KeepsFront}
 use Rattle.voy_disk.specs.ImageLaws.{same_files}
-use Rattle.voy_disk.specs.Images.{Image, ImagesOf, bytes_in}
+use Rattle.voy_disk.specs.Images.{Image, ImagesOf}
 use Rattle.voy_disk.specs.Steps.{Follows}
 use Rattle.voy_disk.specs.StepLaws.{every_along}
 use Rattle.voy_disk.specs.declared.disk.DiskError.{DiskError}
 use Rattle.voy_disk.specs.declared.disk.DiskError.TheVariants.{Failed, NoMemory}
 
 -- a front that was there is there still
-pub front_still : (name front : List ℕ) {old new : Image → Type 0} → HasFront name front old → Follows (KeepsFront name (length front)) old new → HasFront name front new
+pub front_still : (name front : List ℕ) {old new : Image → Type 0} → HasFront name front old
+    → Follows (KeepsFront name (length front)) old new → HasFront name front new
 front_still name front has keeps = every_along has keeps (λ i j here step. step.front ∙ here)
 
-front_change : {R : File → File → Type 0} (name front : List ℕ) (at : ℕ) {old new : Option Files} → IfTold old ReadsImages
-    → HasFront name front (ImagesOf old) → length front ≤ at → ((f g : File) → R f g → TouchedFrom at f g) → Change (Changes R name) old new
+front_change : {R : File → File → Type 0} (name front : List ℕ) (at : ℕ) {old new : Option Files}
+    → IfTold old ReadsImages
+    → HasFront name front (ImagesOf old) → length front ≤ at → ((f g : File) → R f g → TouchedFrom at f g)
+    → Change (Changes R name) old new
     → Follows (KeepsFront name (length front)) (ImagesOf old) (ImagesOf new)
 front_change name front at reads has behind touches untold = record { from = λ j is. absurd is }
 front_change name front at reads has behind touches (told {old = x} {new = y} r) = front_stays x y name front at (reads x refl) has behind touches r
@@ -47,5 +50,6 @@ cut_keeps_front (Err NoMemory) name front to old new reads has behind same = sam
 
 -- a sync
 pub sync_keeps_front : {T : Type 0} (result : Result T DiskError) (name : List ℕ) (n : ℕ) (old new : Option Files)
-    → Told old ReadsImages → Leaves result (Changes Synced name) (Changes SyncFailed name) old new → Follows (KeepsFront name n) (ImagesOf old) (ImagesOf new)
+    → IfTold old ReadsImages → Leaves result (Changes Synced name) (Changes SyncFailed name) old new
+    → Follows (KeepsFront name n) (ImagesOf old) (ImagesOf new)
 sync_keeps_front result name n old new reads change = same_keeps_front name n (sync_follows result name old new reads change)

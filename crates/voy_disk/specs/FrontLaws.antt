@@ -1,26 +1,25 @@
 -- Laws of fronts: what is the same in every image is touched by no range, and what is done behind it leaves it so.
-use Rattle.std.proofs.Common.{◌≡◌, ◌≢◌, ◌≤◌, ◌<◌, ◌+◌, ◌-◌, ◌⊎◌, inl, inr, ℕ, zero, suc, Bool, true, false, List, [], ◌∷◌, ◌++◌, Option, Some, None, Result, Ok, Err, length, take, refl, sym, ap, ◌∙◌, arith, subst, nat_lt, nat_le}
+use Rattle.std.proofs.Common.{◌≡◌, ◌≢◌, ◌≤◌, ◌<◌, ◌+◌, ◌⊎◌, inl, inr, ℕ, zero, suc, Bool, true, false, List, [], ◌∷◌, Some, length, take, refl, sym, ap, ◌∙◌, arith, subst, nat_lt, nat_le}
 use Rattle.std.proofs.lemmas.Bool.Decides.{nat_tests}
 use Rattle.std.proofs.lemmas.List.{length-take}
-use Rattle.std.specs.Prelude.{IfSome, min, slice_get}
-use Rattle.voy_disk.specs.Calls.{Changes, CutFailed, Leaves, Smeared, WasCut, Wrote}
-use Rattle.voy_disk.specs.File.{File, IsImage, Outside, Untouched, touch, written}
-use Rattle.voy_disk.specs.FileLaws.{IsFrontSettled, front_in_all, some_same, touched_behind}
+use Rattle.std.specs.Prelude.{slice_get}
+use Rattle.voy_disk.specs.Calls.{Changes}
+use Rattle.voy_disk.specs.File.{File, IsImage, Outside, Untouched, touch}
+use Rattle.voy_disk.specs.FileLaws.{IsFrontSettled, front_in_all, touched_behind}
 use Rattle.voy_disk.specs.FileStepLaws.{follows_file}
 use Rattle.voy_disk.specs.Files.{Files, ReadsImages}
 use Rattle.voy_disk.specs.Fronts.{HasFront, KeepsFront}
-use Rattle.voy_disk.specs.ImageLaws.{at_each_name, if_some_at, is_image_at, now_at, now_is_an_image, same_files, with_file_elsewhere, with_file_there}
-use Rattle.voy_disk.specs.Images.{Image, ImagesOf, IsImageAt, IsImageOf, StepAt, bytes_in, now_image, with_file}
-use Rattle.voy_disk.specs.Steps.{Every, Follows, Same}
-use Rattle.voy_disk.specs.StepLaws.{every_along, follows_weaker}
-use Rattle.voy_disk.specs.declared.disk.DiskError.{DiskError}
-use Rattle.voy_disk.specs.declared.disk.DiskError.TheVariants.{Failed, NoMemory}
+use Rattle.voy_disk.specs.ImageLaws.{at_each_name, if_some_at, is_image_at, now_at, with_file_elsewhere, with_file_there}
+use Rattle.voy_disk.specs.Images.{Image, IsImageAt, IsImageOf, StepAt, bytes_in, now_image, with_file}
+use Rattle.voy_disk.specs.Steps.{Follows, Same}
+use Rattle.voy_disk.specs.StepLaws.{follows_weaker}
 
 -- ---- one file
 
 outside_or_not : (at n place : ℕ) → Outside at n place ⊎ (Outside at n place → ⊥)
 outside_or_not at n place = by_start (nat_lt place at) refl where
-  by_end : (behind : Bool) → nat_le (at + n) place ≡ behind → nat_lt place at ≡ false → Outside at n place ⊎ (Outside at n place → ⊥)
+  by_end : (behind : Bool) → nat_le (at + n) place ≡ behind → nat_lt place at ≡ false
+      → Outside at n place ⊎ (Outside at n place → ⊥)
   by_end true behind after = inl (inr (grind (arith, nat_tests, behind)))
   by_end false within after = inr (λ outside. elim outside [
     | inl before ↦ grind (arith, nat_tests, before, after)
@@ -34,7 +33,8 @@ outside_or_not at n place = by_start (nat_lt place at) refl where
 untouched_or_not : (ranges : List (ℕ × ℕ)) (place : ℕ) → Untouched ranges place ⊎ (Untouched ranges place → ⊥)
 untouched_or_not [] place = inl tt
 untouched_or_not (range ∷ ranges) place = by (outside_or_not range.0 range.1 place) (untouched_or_not ranges place) where
-  by : Outside range.0 range.1 place ⊎ (Outside range.0 range.1 place → ⊥) → Untouched ranges place ⊎ (Untouched ranges place → ⊥)
+  by : Outside range.0 range.1 place ⊎ (Outside range.0 range.1 place → ⊥)
+      → Untouched ranges place ⊎ (Untouched ranges place → ⊥)
       → Untouched (range ∷ ranges) place ⊎ (Untouched (range ∷ ranges) place → ⊥)
   by (inl out) (inl free) = inl (out, free)
   by (inl out) (inr touched) = inr (λ both. touched both.1)
@@ -46,7 +46,8 @@ changed place [] = []
 changed zero (x ∷ xs) = suc x ∷ xs
 changed (suc place) (x ∷ xs) = x ∷ changed place xs
 
-changed_elsewhere : (place : ℕ) (xs : List ℕ) (other : ℕ) → other ≢ place → slice_get (changed place xs) other ≡ slice_get xs other
+changed_elsewhere : (place : ℕ) (xs : List ℕ) (other : ℕ) → other ≢ place
+    → slice_get (changed place xs) other ≡ slice_get xs other
 changed_elsewhere place [] other apart = refl
 changed_elsewhere zero (x ∷ xs) zero apart = absurd (apart refl)
 changed_elsewhere zero (x ∷ xs) (suc other) apart = refl
@@ -75,7 +76,8 @@ settled_front file reads n within same place below = by (untouched_or_not file.t
       (λ other free. changed_elsewhere place file.now other (λ is. touched (subst (λ p. Untouched file.touched p) is free)) ∙ reads other free)))
 
 -- behind it another range may be touched: each image then has the front that read before
-pub front_follows : (file : File) (n at m : ℕ) (now image : List ℕ) → IsImage file file.now → IsFrontSettled n file → n ≤ at
+pub front_follows : (file : File) (n at m : ℕ) (now image : List ℕ) → IsImage file file.now → IsFrontSettled n file
+    → n ≤ at
     → IsImage (touch file at m now) image → take n image ≡ take n file.now
 front_follows file n at m now image reads front behind is =
     front_in_all n (touch file at m now) (touched_behind n at m file now behind front) image is ∙ sym (front_in_all n file front file.now reads)
@@ -83,14 +85,16 @@ front_follows file n at m now image reads front behind is =
 -- ---- the files of a disk
 
 -- an image of one file is one of the disk beside what the others read now
-one_file_image : (x : Files) (name : List ℕ) (file : File) (image : List ℕ) → ReadsImages x → x name ≡ Some file → IsImage file image
+one_file_image : (x : Files) (name : List ℕ) (file : File) (image : List ℕ) → ReadsImages x → x name ≡ Some file
+    → IsImage file image
     → IsImageOf x (with_file (now_image x) name (Some image))
 one_file_image x name file image reads found is = at_each_name (λ other. IsImageAt (x other) (with_file (now_image x) name (Some image) other)) name
     (rw (with_file_there (now_image x) name (Some image)) (is_image_at (x name) file (Some image) image found refl is))
     (λ other differs. rw (with_file_elsewhere (now_image x) name (Some image) other differs) (now_at (x other) (reads other)))
 
 -- a front of a told file is touched by no range
-pub front_is_settled : (x : Files) (name front : List ℕ) (file : File) → ReadsImages x → x name ≡ Some file → HasFront name front (IsImageOf x)
+pub front_is_settled : (x : Files) (name front : List ℕ) (file : File) → ReadsImages x → x name ≡ Some file
+    → HasFront name front (IsImageOf x)
     → IsFrontSettled (length front) file
 front_is_settled x name front file reads found has = settled_front file reads_now (length front) within (λ image is. in_image image is ∙ sym (in_image file.now reads_now)) where
   reads_now : IsImage file file.now
@@ -111,8 +115,10 @@ pub record TouchedFrom (at : ℕ) (old new : File) : Type 0 where
   pub is : new ≡ touch old at count now
 
 -- what touches a file behind a front leaves the front in each image
-pub front_stays : {R : File → File → Type 0} (x y : Files) (name front : List ℕ) (at : ℕ) → ReadsImages x → HasFront name front (IsImageOf x) → length front ≤ at
-    → ((f g : File) → R f g → TouchedFrom at f g) → Changes R name x y → Follows (KeepsFront name (length front)) (IsImageOf x) (IsImageOf y)
+pub front_stays : {R : File → File → Type 0} (x y : Files) (name front : List ℕ) (at : ℕ) → ReadsImages x
+    → HasFront name front (IsImageOf x) → length front ≤ at
+    → ((f g : File) → R f g → TouchedFrom at f g) → Changes R name x y
+    → Follows (KeepsFront name (length front)) (IsImageOf x) (IsImageOf y)
 front_stays x y name front at reads has behind touches change = follows_weaker by_file (λ i j step. record {
   front = ap (λ bytes. take (length front) (bytes_in bytes)) step.is ∙ step.by ∙ ap (λ bytes. take (length front) (bytes_in bytes)) (sym step.was);
   others = step.others;
@@ -137,5 +143,6 @@ same_front_stays name n i j same = record {
 }
 
 -- where nothing changed but which images there are, fronts stay
-pub same_keeps_front : (name : List ℕ) (n : ℕ) {old new : Image → Type 0} → Follows Same old new → Follows (KeepsFront name n) old new
+pub same_keeps_front : (name : List ℕ) (n : ℕ) {old new : Image → Type 0} → Follows Same old new
+    → Follows (KeepsFront name n) old new
 same_keeps_front name n same = follows_weaker same (same_front_stays name n)

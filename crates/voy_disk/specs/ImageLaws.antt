@@ -8,7 +8,7 @@ use Rattle.std.proofs.lemmas.Option.{none-some, MatchOption-at_some}
 use Rattle.std.specs.Prelude.{unwrap_or, IfSome, ⊤}
 use Rattle.voy_disk.specs.Calls.{Change, untold, told}
 use Rattle.voy_disk.specs.File.{File, IsImage}
-use Rattle.voy_disk.specs.Files.{Files, IfTold, ReadsImages, Told}
+use Rattle.voy_disk.specs.Files.{Files, IfTold, ReadsImages}
 use Rattle.voy_disk.specs.Images.{Image, ImagesOf, IsImageAt, absent, there, IsImageOf, SameBut, now_image, with_file}
 use Rattle.voy_disk.specs.Steps.{Follows, Same}
 use Rattle.voy_disk.specs.StepLaws.{follows_nothing}
@@ -27,7 +27,8 @@ pub record ImageThere (file : File) (image : Option (List ℕ)) : Type 0 where
   pub is : image ≡ Some bytes
   pub of_file : IsImage file bytes
 
-pub image_there : (found : Option File) (image : Option (List ℕ)) (file : File) → found ≡ Some file → IsImageAt found image → ImageThere file image
+pub image_there : (found : Option File) (image : Option (List ℕ)) (file : File) → found ≡ Some file
+    → IsImageAt found image → ImageThere file image
 image_there None image file same is = absurd (none-some file same)
 image_there (Some f) None file same is = elim is [ ]
 image_there (Some f) (Some bytes) file same (there is) = record {
@@ -41,11 +42,13 @@ image_absent None None same absent = refl
 image_absent None (Some bytes) same is = elim is [ ]
 image_absent (Some f) image same is = absurd (none-some f (sym same))
 
-pub is_image_at : (found : Option File) (file : File) (image : Option (List ℕ)) (bytes : List ℕ) → found ≡ Some file → image ≡ Some bytes → IsImage file bytes → IsImageAt found image
+pub is_image_at : (found : Option File) (file : File) (image : Option (List ℕ)) (bytes : List ℕ) → found ≡ Some file
+    → image ≡ Some bytes → IsImage file bytes → IsImageAt found image
 is_image_at found file image bytes found_is image_is is = rw (found_is, image_is) (there is)
 
 -- what reads now is an image of the disk
-pub now_at : (found : Option File) → IfSome found (λ file. IsImage file file.now) → IsImageAt found (option_map (λ (file : File). file.now) found)
+pub now_at : (found : Option File) → IfSome found (λ file. IsImage file file.now)
+    → IsImageAt found (option_map (λ (file : File). file.now) found)
 now_at None reads = absent
 now_at (Some file) reads = there reads
 
@@ -57,20 +60,18 @@ pub same_files : {old new : Option Files} → new ≡ old → Follows Same (Imag
 same_files {old} {new} same = rw same (follows_nothing (ImagesOf old))
 
 -- from a change of told files to images, told or not
-pub follows_change : {R : Files → Files → Type 0} {step : Image → Image → Type 0} {old new : Option Files} → Change R old new → ((x y : Files) → R x y → Follows step (IsImageOf x) (IsImageOf y)) → Follows step (ImagesOf old) (ImagesOf new)
+pub follows_change : {R : Files → Files → Type 0} {step : Image → Image → Type 0} {old new : Option Files}
+    → Change R old new → ((x y : Files) → R x y → Follows step (IsImageOf x) (IsImageOf y))
+    → Follows step (ImagesOf old) (ImagesOf new)
 follows_change untold law = record { from = λ j is. absurd is }
 follows_change (told {old = x} {new = y} r) law = law x y r
 
 -- the same with a fact that is told of the files before
-pub follows_told : {P : Files → Type 0} {R : Files → Files → Type 0} {step : Image → Image → Type 0} {old new : Option Files} → Told old P → Change R old new → ((x y : Files) → P x → R x y → Follows step (IsImageOf x) (IsImageOf y)) → Follows step (ImagesOf old) (ImagesOf new)
+pub follows_told : {P : Files → Type 0} {R : Files → Files → Type 0} {step : Image → Image → Type 0} {old new : Option Files}
+    → IfTold old P → Change R old new → ((x y : Files) → P x → R x y → Follows step (IsImageOf x) (IsImageOf y))
+    → Follows step (ImagesOf old) (ImagesOf new)
 follows_told p untold law = record { from = λ j is. absurd is }
-follows_told p (told {old = x} {new = y} r) law = law x y p r
-
--- the same with a fact of them that is given as an implication
-pub follows_if : {P : Files → Type 0} {R : Files → Files → Type 0} {step : Image → Image → Type 0} {old new : Option Files} → IfTold old P → Change R old new
-    → ((x y : Files) → P x → R x y → Follows step (IsImageOf x) (IsImageOf y)) → Follows step (ImagesOf old) (ImagesOf new)
-follows_if p untold law = record { from = λ j is. absurd is }
-follows_if p (told {old = x} {new = y} r) law = law x y (p x refl) r
+follows_told p (told {old = x} {new = y} r) law = law x y (p x refl) r
 
 same_name : (name : List ℕ) → bytes_eq name name ≡ true
 same_name name = (bytes_eq-Decides name name).1 refl
@@ -87,11 +88,13 @@ named_apart name other apart = λ same. true≢false (sym ((bytes_eq-Decides nam
 pub with_file_there : (image : Image) (name : List ℕ) (file : Option (List ℕ)) → with_file image name file name ≡ file
 with_file_there image name file = let same = same_name name in rw same refl
 
-pub with_file_elsewhere : (image : Image) (name : List ℕ) (file : Option (List ℕ)) → SameBut name image (with_file image name file)
+pub with_file_elsewhere : (image : Image) (name : List ℕ) (file : Option (List ℕ))
+    → SameBut name image (with_file image name file)
 with_file_elsewhere image name file = λ other differs. let apart = other_name name other differs in rw apart refl
 
 -- where each name is the changed one or another, a fact of both holds of all
-pub at_each_name : (P : List ℕ → Type 0) (name : List ℕ) → P name → ((other : List ℕ) → other ≢ name → P other) → (other : List ℕ) → P other
+pub at_each_name : (P : List ℕ → Type 0) (name : List ℕ) → P name → ((other : List ℕ) → other ≢ name → P other)
+    → (other : List ℕ) → P other
 at_each_name P name here elsewhere other = by_name (bytes_eq name other) refl
   where
     by_name : (same : Bool) → bytes_eq name other ≡ same → P other

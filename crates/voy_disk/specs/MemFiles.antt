@@ -9,7 +9,7 @@ use Rattle.std.specs.declared.alloc.AllocError.{AllocError}
 use Rattle.voy_disk.specs.declared.disk.DiskError.{DiskError}
 use Rattle.voy_disk.specs.declared.disk.DiskError.TheVariants.{NoMemory}
 use Rattle.voy_disk.specs.File.{File, IsImage, settled, touch, written}
-use Rattle.voy_disk.specs.Files.{Files, ReadsImages, AreShort}
+use Rattle.voy_disk.specs.Files.{Files, IfTold, ReadsImages, AreShort, told_of}
 
 -- the bytes that a lent slice shows, if one is lent
 abbrev pub shown : Option (Bor (List ℕ)) → Option (List ℕ)
@@ -54,9 +54,13 @@ module _ {Y : Type 0} where
   files_of map name = option_map file_of (get_by_text map name)
 
   -- the bytes that a file in memory reads now are one of its images
-  pub files_read_images : (map : BTreeMap (String Y) MemFile) → ReadsImages (files_of map)
-  files_read_images map name = found_reads_an_image (get_by_text map name)
+  pub map_reads_images : (map : BTreeMap (String Y) MemFile) → ReadsImages (files_of map)
+  map_reads_images map name = found_reads_an_image (get_by_text map name)
+
+  -- and so the files that such a disk tells read images
+  pub files_read_images : (map : BTreeMap (String Y) MemFile) → IfTold (Some (files_of map)) ReadsImages
+  files_read_images map = told_of (files_of map) ReadsImages (map_reads_images map)
 
   -- a file in memory is no longer than a vector can be
-  pub files_are_short : (map : BTreeMap (String Y) MemFile) → AreShort (files_of map)
-  files_are_short map name = found_is_short (get_by_text map name)
+  pub files_are_short : (map : BTreeMap (String Y) MemFile) → IfTold (Some (files_of map)) AreShort
+  files_are_short map = told_of (files_of map) AreShort (λ name. found_is_short (get_by_text map name))

@@ -11,7 +11,8 @@ use Rattle.voy_disk.specs.Images.{ImagesOf, IsImageAt, IsImageOf, IsLeftAt, IsSe
 use Rattle.voy_disk.specs.Steps.{Follows, Same, StaysTold}
 use Rattle.std.specs.Option.{option_map}
 
-outage_at : (old new : Option File) (image : Option (List ℕ)) → IsLeftAt old new → IsImageAt new image → IsImageAt old image
+outage_at : (old new : Option File) (image : Option (List ℕ)) → IsLeftAt old new → IsImageAt new image
+    → IsImageAt old image
 outage_at None None image none_left is = is
 outage_at None (Some after) image left is = elim left [ ]
 outage_at (Some file) None image left is = elim left [ ]

@@ -4,11 +4,14 @@ use Rattle.voy_disk.specs.Steps.{Every, Follows, Goes, Lawful, Reaches, after_al
 use Rattle.voy_disk.specs.StepLaws.{every_along, follows_nothing, follows_on, follows_weaker}
 
 module _ {R K : Type 0} (step : R → K → R) (may : R → K → Type 0) where
-  after_more : (ks ls : List K) (r : R) → after_all step r (ks ++ ls) ≡ after_all step (after_all step r ks) ls
+  -- some steps and then others are both, one behind the other
+  pub after_more : (ks ls : List K) (r : R) → after_all step r (ks ++ ls) ≡ after_all step (after_all step r ks) ls
   after_more [] ls r = refl
   after_more (k ∷ ks) ls r = after_more ks ls (step r k)
 
-  lawful_more : (ks ls : List K) (r : R) → Lawful step may r ks → Lawful step may (after_all step r ks) ls → Lawful step may r (ks ++ ls)
+  -- lawful steps from where lawful steps led
+  pub lawful_more : (ks ls : List K) (r : R) → Lawful step may r ks → Lawful step may (after_all step r ks) ls
+      → Lawful step may r (ks ++ ls)
   lawful_more [] ls r here behind = behind
   lawful_more (k ∷ ks) ls r here behind = (here.0, lawful_more ks ls (step r k) here.1 behind)
 
@@ -38,11 +41,13 @@ module _ {R K : Type 0} (step : R → K → R) (may : R → K → Type 0) where
     reaches_keeps r s holds reach = rw reach.ends (lawful_keeps reach.steps r holds reach.lawful)
 
     -- and so in every image
-    pub goes_keeps : {I : Type 0} (reads : I → R) (old new : I → Type 0) → Every old (λ i. P (reads i)) → Goes reads step may old new → Every new (λ j. P (reads j))
+    pub goes_keeps : {I : Type 0} (reads : I → R) (old new : I → Type 0) → Every old (λ i. P (reads i))
+        → Goes reads step may old new → Every new (λ j. P (reads j))
     goes_keeps reads old new holds goes = every_along holds goes (λ i j here reach. reaches_keeps (reads i) (reads j) here reach)
 
   -- one call after another
-  pub goes_on : {I : Type 0} (reads : I → R) (a b c : I → Type 0) → Goes reads step may a b → Goes reads step may b c → Goes reads step may a c
+  pub goes_on : {I : Type 0} (reads : I → R) (a b c : I → Type 0) → Goes reads step may a b → Goes reads step may b c
+      → Goes reads step may a c
   goes_on reads a b c first next = follows_on first next (λ i j k here behind. reaches_on (reads i) (reads j) (reads k) here behind)
 
   -- where nothing was done
@@ -60,7 +65,8 @@ module _ {R K : Type 0} (step : R → K → R) (may : R → K → Type 0) where
     reaches_relates r s reach = rw reach.ends (lawful_relates reach.steps r reach.lawful)
 
     -- and so in every image
-    pub goes_relates : {I : Type 0} (reads : I → R) (old new : I → Type 0) → Goes reads step may old new → Follows (λ i j. relates (reads i) (reads j)) old new
+    pub goes_relates : {I : Type 0} (reads : I → R) (old new : I → Type 0) → Goes reads step may old new
+        → Follows (λ i j. relates (reads i) (reads j)) old new
     goes_relates reads old new goes = follows_weaker goes (λ i j reach. reaches_relates (reads i) (reads j) reach)
 
 -- a part of a whole whose other parts stay, with the steps of the part as steps of the whole

@@ -38,7 +38,8 @@ abbrev pub LeavesPrefix : {I S : Type 0} → (List S → I → I → Type 0) →
 LeavesPrefix does steps old new = Follows (SomeFirst does steps) old new
 
 -- after Ok, each image has all steps more than an image before
-abbrev pub DoesAll : {I S T E : Type 0} → (List S → I → I → Type 0) → List S → Result T E → (I → Type 0) → (I → Type 0) → Type 0
+abbrev pub DoesAll : {I S T E : Type 0} → (List S → I → I → Type 0) → List S → Result T E → (I → Type 0) → (I → Type 0)
+    → Type 0
 DoesAll does steps result old new = OnOk result (Follows (does steps) old new)
 
 -- what is left of a reading after steps of these kinds, one after the other

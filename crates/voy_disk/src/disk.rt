@@ -2,7 +2,7 @@ ghost use base.Fml.{GName};
 ghost use Rattle.std.specs.Prelude.{◌≡◌, ◌≤◌, ◌<◌, ◌+◌, ◌^◌, ◌↔◌, ℕ, List, ◌∷◌, Option, None, length, IfOk, IfSome, OnOk};
 ghost use Rattle.voy_disk.specs.Calls.{Changes, Created, CutFailed, DoneOrNot, IsThereWith, Leaves, Lists, Renamed, Smeared, SyncFailed, Synced, WasCut, Wrote};
 ghost use Rattle.voy_disk.specs.Faults.{HasCause};
-ghost use Rattle.voy_disk.specs.Files.{Files, Told, length_of, bytes_now, Reads, NothingToRead, ReadsImages, AreShort};
+ghost use Rattle.voy_disk.specs.Files.{Files, IfTold, length_of, bytes_now, Reads, NothingToRead, ReadsImages, AreShort};
 
 use crate::name::Name;
 use crate::names::Names;
@@ -36,14 +36,14 @@ pub trait Disk {
 
     /// The names of all files, each once, in byte order. No file changes.
     fn list(&mut self) -> Result<Names, DiskError>
-        ensures names { IfOk result (λ names. Told (files self.old) (λ fs. Lists fs names)) }
+        ensures names { IfOk result (λ names. IfTold (files self.old) (λ fs. Lists fs names)) }
         ensures same { files self.new ≡ files self.old }
         ensures cause { HasCause DiskError.Failed (faults self.old) (faults self.new) result }
         ensures lender { lender self.new ≡ lender self.old };
 
     /// The length in bytes of the file, or `None` where there is no such file. No file changes.
     fn len(&mut self, name: &Name) -> Result<Option<u64>, DiskError>
-        ensures length { IfOk result (λ n. Told (files self.old) (λ fs. n ≡ length_of (fs name.now))) }
+        ensures length { IfOk result (λ n. IfTold (files self.old) (λ fs. n ≡ length_of (fs name.now))) }
         ensures short { IfOk result (λ n. IfSome n (λ bytes. bytes < 2 ^ 63)) }
         ensures same { files self.new ≡ files self.old }
         ensures cause { HasCause DiskError.Failed (faults self.old) (faults self.new) result }
@@ -55,8 +55,8 @@ pub trait Disk {
     /// its length still, and nothing is known of its bytes.
     fn read_at(&mut self, name: &Name, at: u64, into: &mut [u8]) -> Result<usize, DiskError>
         ensures within { IfOk result (λ n. n ≤ length into.old) }
-        ensures bytes { IfOk result (λ n. Told (files self.old) (λ fs. Reads (bytes_now (fs name.now)) at n into.old into.new)) }
-        ensures some { IfOk result (λ n. Told (files self.old) (λ fs. (n ≡ 0) ↔ NothingToRead (bytes_now (fs name.now)) at into.old)) }
+        ensures bytes { IfOk result (λ n. IfTold (files self.old) (λ fs. Reads (bytes_now (fs name.now)) at n into.old into.new)) }
+        ensures some { IfOk result (λ n. IfTold (files self.old) (λ fs. (n ≡ 0) ↔ NothingToRead (bytes_now (fs name.now)) at into.old)) }
         ensures same { files self.new ≡ files self.old }
         ensures cause { HasCause DiskError.Failed (faults self.old) (faults self.new) result }
         ensures lender { lender self.new ≡ lender self.old };
@@ -73,7 +73,7 @@ pub trait Disk {
     ///
     /// No file grows past 2^63 - 1 bytes: a write that would is `NoMemory` in memory and `Failed` on a real folder.
     fn write_at(&mut self, name: &Name, at: u64, bytes: &[u8]) -> Result<(), DiskError>
-        requires there { Told (files self.old) (λ fs. IsThereWith (λ file. at ≤ length file.now) (fs name.now)) }
+        requires there { IfTold (files self.old) (λ fs. IsThereWith (λ file. at ≤ length file.now) (fs name.now)) }
         requires low { at < 2 ^ 63 }
         ensures written { Leaves result (Changes (Wrote at bytes.now) name.now) (Changes (Smeared at (length bytes.now)) name.now) (files self.old) (files self.new) }
         ensures fits { OnOk result (at + length bytes.now < 2 ^ 63) }
@@ -83,7 +83,7 @@ pub trait Disk {
     /// Cuts the file to `to` bytes, which is not safe until a `sync`. After `Failed` any bytes, or none, read
     /// from there on.
     fn cut(&mut self, name: &Name, to: u64) -> Result<(), DiskError>
-        requires there { Told (files self.old) (λ fs. IsThereWith (λ file. to ≤ length file.now) (fs name.now)) }
+        requires there { IfTold (files self.old) (λ fs. IsThereWith (λ file. to ≤ length file.now) (fs name.now)) }
         ensures cut { Leaves result (Changes (WasCut to) name.now) (Changes (CutFailed to) name.now) (files self.old) (files self.new) }
         ensures cause { HasCause DiskError.Failed (faults self.old) (faults self.new) result }
         ensures lender { lender self.new ≡ lender self.old };
@@ -91,24 +91,24 @@ pub trait Disk {
     /// Makes all bytes of the file safe. After `Failed` it reads as before, and a stop leaves nothing that it
     /// could not have left before.
     fn sync(&mut self, name: &Name) -> Result<(), DiskError>
-        requires there { Told (files self.old) (λ fs. IsThereWith (λ _. Unit {0}) (fs name.now)) }
+        requires there { IfTold (files self.old) (λ fs. IsThereWith (λ _. Unit {0}) (fs name.now)) }
         ensures synced { Leaves result (Changes Synced name.now) (Changes SyncFailed name.now) (files self.old) (files self.new) }
         ensures cause { HasCause DiskError.Failed (faults self.old) (faults self.new) result }
         ensures lender { lender self.new ≡ lender self.old };
 
     /// Gives the file `from` the name `to`. After Ok the names are safe. After `Failed` it was done, or was not.
     fn rename(&mut self, from: &Name, to: &Name) -> Result<(), DiskError>
-        requires there { Told (files self.old) (λ fs. IsThereWith (λ _. Unit {0}) (fs from.now)) }
-        requires free { Told (files self.old) (λ fs. fs to.now ≡ None) }
+        requires there { IfTold (files self.old) (λ fs. IsThereWith (λ _. Unit {0}) (fs from.now)) }
+        requires free { IfTold (files self.old) (λ fs. fs to.now ≡ None) }
         ensures renamed { Leaves result (Renamed from.now to.now) (DoneOrNot (Renamed from.now to.now)) (files self.old) (files self.new) }
         ensures cause { HasCause DiskError.Failed (faults self.old) (faults self.new) result }
         ensures lender { lender self.new ≡ lender self.old };
 
     /// The bytes that a file reads now are one of its images.
-    ghost reads_an_image: { (disk : Self) → Told (files disk) ReadsImages };
+    ghost reads_an_image: { (disk : Self) → IfTold (files disk) ReadsImages };
 
     /// No file is longer than a vector of bytes can be.
-    ghost has_short_files: { (disk : Self) → Told (files disk) AreShort };
+    ghost has_short_files: { (disk : Self) → IfTold (files disk) AreShort };
 }
 
 impl<D: Disk> Disk for &mut D {

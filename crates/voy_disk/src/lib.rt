@@ -21,6 +21,7 @@
 
 mod disk;
 mod host;
+mod laws;
 mod memory;
 mod name;
 mod names;
@@ -32,6 +33,7 @@ mod writing;
 
 pub use disk::{Disk, DiskError};
 pub use host::{HostDisk, HostSink};
+pub use laws::{frames_add_up, fronts_are_settled, outages_settle};
 pub use memory::{FaultPlan, MemDisk, MemSink, SureDisk};
 pub use name::{MAX_NAME_BYTES, Name};
 pub use names::Names;

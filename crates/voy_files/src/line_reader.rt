@@ -34,7 +34,7 @@ pub struct LineReader {
 impl LineReader {
     ghost use Rattle.std.specs.Prelude.{◌≡◌, ◌≢◌, ◌<◌, ◌≤◌, ◌^◌, ◌+◌, ◌-◌, ◌↔◌, ℕ, List, [], ◌∷◌, false, length, vec_len, is_some, IsTrue, IsFalse, IfOk, IfSome, MatchOption};
     ghost use Rattle.voy_disk.specs.Faults.{HasCause};
-    ghost use Rattle.voy_disk.specs.Files.{Files, IfTold, Told, bytes_now};
+    ghost use Rattle.voy_disk.specs.Files.{Files, IfTold, bytes_now};
     ghost use Rattle.voy_files.specs.Bytes.{bytes_between};
     ghost use Rattle.voy_files.specs.Reader.{Finds, IsRead, IsSameFile, StandsAt, TakesLine, TakesPiece, bytes_left, bytes_taken, found_line, has_line_feed, held, line_limit, unread};
 
@@ -46,7 +46,7 @@ impl LineReader {
         name: Name,
         limit: usize,
     ) -> Result<Option<LineReader>, DiskError>
-        ensures absent { IfOk result (λ o. Told (D.files disk.old) (λ fs.
+        ensures absent { IfOk result (λ o. IfTold (D.files disk.old) (λ fs.
             MatchOption o (fs name ≡ None) (λ r. unread r fs ≡ bytes_now (fs name)))) }
         ensures found { IfOk result (λ o. IfTold (D.files disk.old) (λ fs. is_some o ≡ is_some (fs name))) }
         ensures limit { IfOk result (λ o. IfSome o (λ r. line_limit r ≡ limit)) }
@@ -111,7 +111,7 @@ impl LineReader {
 
     /// Finds the next line. After an error, and after a line that is too long, the reader is given up.
     pub fn next<D: Disk>(&mut self, disk: &mut D) -> Result<Found, DiskError>
-        ensures found { IfOk result (λ found. Told (D.files disk.old) (λ fs.
+        ensures found { IfOk result (λ found. IfTold (D.files disk.old) (λ fs.
             Finds found (line_limit self.old) (found_line self.new) (unread self.old fs) (unread self.new fs))) }
         ensures takes { IfOk result (λ found. found ≡ Found.Line → IfTold (D.files disk.old) (λ fs.
             TakesLine (has_line_feed self.new) (found_line self.new) (unread self.old fs) (unread self.new fs))) }
@@ -139,10 +139,10 @@ impl LineReader {
 
     /// Whether no byte is left. It reads the next piece where the one at hand is used up.
     pub fn is_at_end<D: Disk>(&mut self, disk: &mut D) -> Result<bool, DiskError>
-        ensures left { IfOk result (λ end. Told (D.files disk.old) (λ fs. IsTrue end ↔ (unread self.old fs ≡ []))) }
+        ensures left { IfOk result (λ end. IfTold (D.files disk.old) (λ fs. IsTrue end ↔ (unread self.old fs ≡ []))) }
         ensures held { IfOk result (λ end. IsFalse end → 0 < length (held self.new)) }
         ensures fewer { IfOk result (λ end. bytes_left self.new ≤ bytes_left self.old) }
-        ensures unread { IfOk result (λ end. Told (D.files disk.old) (λ fs. unread self.new fs ≡ unread self.old fs)) }
+        ensures unread { IfOk result (λ end. IfTold (D.files disk.old) (λ fs. unread self.new fs ≡ unread self.old fs)) }
         ensures stands { IfOk result (λ end. (offset : ℕ) → StandsAt self.old offset → StandsAt self.new offset) }
         ensures line { found_line self.new ≡ found_line self.old }
         ensures ended { has_line_feed self.new ≡ has_line_feed self.old }

@@ -1,6 +1,6 @@
 ghost use Rattle.std.specs.Prelude.{◌≡◌, IfOk, MatchOption, None, Some, is_some};
 ghost use Rattle.voy_disk.specs.Faults.{HasCause};
-ghost use Rattle.voy_disk.specs.Files.{Told, bytes_now};
+ghost use Rattle.voy_disk.specs.Files.{IfTold, bytes_now};
 
 use crate::byte_reader::{ByteReader, PIECE_BYTES};
 use std::alloc::Global;
@@ -12,9 +12,9 @@ pub fn read_file<D: Disk>(
     disk: &mut D,
     name: &Name,
 ) -> Result<Option<Vec<u8>>, DiskError>
-    ensures whole { IfOk result (λ o. Told (D.files disk.old) (λ fs.
+    ensures whole { IfOk result (λ o. IfTold (D.files disk.old) (λ fs.
         MatchOption o (fs name.now ≡ None) (λ bytes. bytes.items ≡ bytes_now (fs name.now)))) }
-    ensures found { IfOk result (λ o. Told (D.files disk.old) (λ fs. is_some o ≡ is_some (fs name.now))) }
+    ensures found { IfOk result (λ o. IfTold (D.files disk.old) (λ fs. is_some o ≡ is_some (fs name.now))) }
     ensures same { D.files disk.new ≡ D.files disk.old }
     ensures cause { HasCause DiskError.Failed (D.faults disk.old) (D.faults disk.new) result }
     ensures lender { D.lender disk.new ≡ D.lender disk.old }

@@ -13,11 +13,13 @@ use Rattle.voy_disk.specs.Frames.{KeepsOtherFiles}
 use Rattle.voy_disk.specs.ChangeLaws.{at_new}
 
 -- the payloads of the files that are told
-known_files : (name : List ℕ) (gate : ℕ) (fs : Files) (payloads : List (List ℕ)) → StandsAt name gate payloads fs → IfTold (Some fs) (StandsAt name gate payloads)
+known_files : (name : List ℕ) (gate : ℕ) (fs : Files) (payloads : List (List ℕ)) → StandsAt name gate payloads fs
+    → IfTold (Some fs) (StandsAt name gate payloads)
 known_files name gate fs payloads at x is = let same : fs ≡ x = cc in subst (λ (files : Files). StandsAt name gate payloads files) same at
 
 -- whatever it answers: the payloads that stood, or one more
-pub leaves_prefix : (name : List ℕ) (gate : ℕ) (payload block : List ℕ) (a b : Option Files) → IfTold a (Stands name gate) → IsBlock payload block
+pub leaves_prefix : (name : List ℕ) (gate : ℕ) (payload block : List ℕ) (a b : Option Files)
+    → IfTold a (Stands name gate) → IsBlock payload block
     → AppendsOrNot name gate block a (ImagesOf b) → Follows (SameBut name) (ImagesOf a) (ImagesOf b)
     → LeavesPrefix (AddsPayloads name) (payload ∷ []) (ImagesOf a) (ImagesOf b)
 leaves_prefix name gate payload block None b stands is either same = record { from = λ j of_b. absurd (same.from j of_b).was }
@@ -39,8 +41,10 @@ leaves_prefix name gate payload block (Some fs) b stands is either same = record
 }
 
 -- after Ok: one more
-pub adds_one : (name : List ℕ) (gate : ℕ) (payload block : List ℕ) (a b : Option Files) → IfTold a (Stands name gate) → IsBlock payload block
-    → Appends name gate block a b → Follows (SameBut name) (ImagesOf a) (ImagesOf b) → Follows (AddsPayloads name (payload ∷ [])) (ImagesOf a) (ImagesOf b)
+pub adds_one : (name : List ℕ) (gate : ℕ) (payload block : List ℕ) (a b : Option Files) → IfTold a (Stands name gate)
+    → IsBlock payload block
+    → Appends name gate block a b → Follows (SameBut name) (ImagesOf a) (ImagesOf b)
+    → Follows (AddsPayloads name (payload ∷ [])) (ImagesOf a) (ImagesOf b)
 adds_one name gate payload block None b stands is appends same = record { from = λ j of_b. absurd (same.from j of_b).was }
 adds_one name gate payload block (Some fs) b stands is appends same = record {
   from = λ j of_b.
@@ -58,14 +62,16 @@ adds_one name gate payload block (Some fs) b stands is appends same = record {
 }
 
 -- the journal stands again, and knows of one payload more
-pub stands_again : (name : List ℕ) (gate : ℕ) (payload block : List ℕ) (a b : Option Files) → IfTold a (Stands name gate) → IsBlock payload block
+pub stands_again : (name : List ℕ) (gate : ℕ) (payload block : List ℕ) (a b : Option Files)
+    → IfTold a (Stands name gate) → IsBlock payload block
     → Appends name gate block a b → Change (KeepsOtherFiles name) a b → IfTold b (Stands name (gate + length block))
 stands_again name gate payload block a b stands is appends others y known =
     let old = at_new others y known in
     let at = stands old.0 old.1 in
     (at.0 ++ payload ∷ [], appends payload at.0 is (subst (λ (files : Option Files). IfTold files (StandsAt name gate at.0)) (sym old.1) (known_files name gate old.0 at.0 at.1)) y known)
 
-pub knows_one_more : (name : List ℕ) (gate : ℕ) (payload block : List ℕ) (a b : Option Files) → IfTold a (Stands name gate) → IsBlock payload block
+pub knows_one_more : (name : List ℕ) (gate : ℕ) (payload block : List ℕ) (a b : Option Files)
+    → IfTold a (Stands name gate) → IsBlock payload block
     → Appends name gate block a b → Change (KeepsOtherFiles name) a b
     → payloads_before name (gate + length block) b ≡ option_map (λ payloads. payloads ++ payload ∷ []) (payloads_before name gate a)
 knows_one_more name gate payload block None None stands is appends untold = refl

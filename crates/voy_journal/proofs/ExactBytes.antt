@@ -1,5 +1,5 @@
 -- Laws of the exact bytes that the calls of a journal leave.
-use Rattle.std.proofs.Common.{◌≡◌, ◌≤◌, ◌<◌, ◌+◌, ℕ, suc, true, false, List, [], ◌∷◌, ◌++◌, Option, Some, None, Result, Ok, Err, length, length-append, take, drop, nat_le, refl, sym, ap, ◌∙◌, arith}
+use Rattle.std.proofs.Common.{◌≡◌, ◌≤◌, ◌<◌, ◌+◌, ℕ, suc, true, false, List, [], ◌∷◌, ◌++◌, Option, Some, Result, Ok, Err, length, length-append, take, drop, nat_le, refl, sym, ap, ◌∙◌, arith}
 use Rattle.std.proofs.lemmas.Bool.Decides.{nat_tests}
 use Rattle.std.proofs.lemmas.List.{drop_at, length-take-le, take-append-le, take-take}
 use Rattle.std.specs.Prelude.{OnOk}
@@ -17,7 +17,8 @@ use Rattle.voy_journal.specs.Journal.{Stands}
 -- ---- an opening
 
 -- a file that reads as before, where it is not too short for a journal
-pub reads_as_before : (name : List ℕ) {a b : Option Files} → Change (KeepsBytesNow name) a b → Change (ReadsAsBefore name) a b
+pub reads_as_before : (name : List ℕ) {a b : Option Files} → Change (KeepsBytesNow name) a b
+    → Change (ReadsAsBefore name) a b
 reads_as_before name keeps = change_weaker keeps (λ x y same long. same)
 
 few_are_gone : (bytes : List ℕ) → length bytes ≤ 1 → drop 1 bytes ≡ []
@@ -33,20 +34,23 @@ pub many_opened : (bytes : List ℕ) → 1 < length bytes → opened_bytes bytes
 many_opened bytes many = let test : nat_le (length bytes) 1 ≡ false = grind (arith, nat_tests) in rw test refl
 
 -- a file that was settled and made anew
-pub opens_anew : (name : List ℕ) (end : ℕ) (a b c : Option Files) → Change (Settles name) a b → IfTold a (λ fs. end ≡ length (bytes_now (fs name))) → end ≤ 1
+pub opens_anew : (name : List ℕ) (end : ℕ) (a b c : Option Files) → Change (Settles name) a b
+    → IfTold a (λ fs. end ≡ length (bytes_now (fs name))) → end ≤ 1
     → Change (Rewrites name 0 (0 ∷ [])) b c → Change (OpensFile name) a c
 opens_anew name end a b c settled_so counts few rewrites =
     change_on (change_if {S = λ x y. (end ≡ length (bytes_now (x name))) × Settles name x y} settled_so (λ x y is settles. (counts x (sym is), settles))) rewrites
     (λ x y z known wrote. wrote (bytes_now (x name)) known.1 ∙ ap (λ bytes. Some (settled bytes)) (few_opened (bytes_now (x name)) (omega (arith, known.0, few))))
 
 -- a file that was settled and read
-pub opens_as_it_was : (name : List ℕ) (end : ℕ) (a b c : Option Files) → Change (Settles name) a b → IfTold a (λ fs. end ≡ length (bytes_now (fs name))) → 1 < end
+pub opens_as_it_was : (name : List ℕ) (end : ℕ) (a b c : Option Files) → Change (Settles name) a b
+    → IfTold a (λ fs. end ≡ length (bytes_now (fs name))) → 1 < end
     → c ≡ b → Change (OpensFile name) a c
 opens_as_it_was name end a b c settled_so counts many same = rw same (change_if settled_so (λ x y is settles.
     settles ∙ ap (λ bytes. Some (settled bytes)) (sym (many_opened (bytes_now (x name)) (omega (arith, counts x (sym is), many))))))
 
 -- a file of at most one byte has no bytes that must stay
-pub few_as_before : (name : List ℕ) (end : ℕ) {R : Files → Files → Type 0} (a b : Option Files) → Change R a b → IfTold a (λ fs. end ≡ length (bytes_now (fs name)))
+pub few_as_before : (name : List ℕ) (end : ℕ) {R : Files → Files → Type 0} (a b : Option Files) → Change R a b
+    → IfTold a (λ fs. end ≡ length (bytes_now (fs name)))
     → end ≤ 1 → Change (ReadsAsBefore name) a b
 few_as_before name end a b change counts few = change_if change (λ x y is r long. absurd (omega (arith, counts x (sym is), few, long)))
 
@@ -72,21 +76,29 @@ written_twice bytes block place byte within =
     ∙ ap (λ n. take place bytes ++ byte ∷ (block ++ drop n bytes)) behind
 
 -- what stands at a gate reaches behind it
-gate_within : (name : List ℕ) (gate : ℕ) (fs : Files) (safe : List ℕ) → Stands name gate fs → fs name ≡ Some (settled safe) → gate + 1 ≤ length safe
+gate_within : (name : List ℕ) (gate : ℕ) (fs : Files) (safe : List ℕ) → Stands name gate fs
+    → fs name ≡ Some (settled safe) → gate + 1 ≤ length safe
 gate_within name gate fs safe (payloads, at) is =
-    omega (arith, at.at, ap (λ (file : File). length file.now) (file_same (sym is ∙ at.file)), ap length at.holds.split,
-    length-append (entries payloads) (at.holds.gate ∷ at.holds.rest))
+    omega (
+      arith,
+      at.at,
+      ap (λ (file : File). length file.now) (file_same (sym is ∙ at.file)),
+      ap length at.holds.split,
+      length-append (entries payloads) (at.holds.gate ∷ at.holds.rest),
+    )
 
 -- the block behind the gate, and then the gate
 pub wrote_both : (name : List ℕ) (gate : ℕ) (block : List ℕ) (a b c : Option Files) → IfTold a (Stands name gate)
-    → Change (Rewrites name (gate + 1) block) a b → Change (Rewrites name gate (1 ∷ [])) b c → Change (Rewrites name gate (1 ∷ block)) a c
+    → Change (Rewrites name (gate + 1) block) a b → Change (Rewrites name gate (1 ∷ [])) b c
+    → Change (Rewrites name gate (1 ∷ block)) a c
 wrote_both name gate block a b c stands first second =
     change_on (change_if {S = λ x y. Stands name gate x × Rewrites name (gate + 1) block x y} first (λ x y is wrote. (stands x (sym is), wrote))) second
     (λ x y z known opened safe is. opened (written safe (gate + 1) block) (known.1 safe is)
     ∙ ap (λ bytes. Some (settled bytes)) (written_twice safe block gate 1 (gate_within name gate x safe known.0 is)))
 
 -- an append that answered Ok leaves these bytes
-pub appends_entry : (name : List ℕ) (gate : ℕ) (payload block : List ℕ) (a b : Option Files) → IfTold a (Stands name gate) → IsBlock payload block
+pub appends_entry : (name : List ℕ) (gate : ℕ) (payload block : List ℕ) (a b : Option Files)
+    → IfTold a (Stands name gate) → IsBlock payload block
     → Change (Rewrites name gate (1 ∷ block)) a b → Change (AppendsEntry name gate payload) a b
 appends_entry name gate payload block a b stands is wrote = change_if wrote (λ x y known rewrites.
     let at = (stands x (sym known)).1 in

@@ -19,7 +19,8 @@ use Rattle.voy_disk.specs.SafeFiles.{IsSafeFile, Rewrites}
 use Rattle.voy_disk.specs.ChangeLaws.{at_new}
 
 -- bytes that are the same up to a closed gate hold the same payloads
-front_holds : (payloads : List (List ℕ)) (bytes after : List ℕ) (gate n : ℕ) → Holds payloads bytes → length (entries payloads) ≡ gate
+front_holds : (payloads : List (List ℕ)) (bytes after : List ℕ) (gate n : ℕ) → Holds payloads bytes
+    → length (entries payloads) ≡ gate
     → SameOutside (gate + 1) n bytes after → Holds payloads after
 front_holds payloads bytes after gate n holds at same =
     let front = entries payloads ++ holds.gate ∷ [] in
@@ -44,7 +45,8 @@ pub record HasBlock (payloads : List (List ℕ)) (block bytes : List ℕ) : Type
   pub shut : gate ≢ 1
 
 -- a block that is written behind the gate stands there
-block_written : (payloads : List (List ℕ)) (bytes block : List ℕ) (gate : ℕ) → Holds payloads bytes → length (entries payloads) ≡ gate
+block_written : (payloads : List (List ℕ)) (bytes block : List ℕ) (gate : ℕ) → Holds payloads bytes
+    → length (entries payloads) ≡ gate
     → HasBlock payloads block (written bytes (gate + 1) block)
 block_written payloads bytes block gate holds at =
     let front = entries payloads ++ holds.gate ∷ [] in
@@ -59,7 +61,8 @@ block_written payloads bytes block gate holds at =
     }
 
 -- with another byte in place of the gate
-gate_changed : (payloads : List (List ℕ)) (block bytes : List ℕ) (gate byte : ℕ) → (has : HasBlock payloads block bytes) → length (entries payloads) ≡ gate
+gate_changed : (payloads : List (List ℕ)) (block bytes : List ℕ) (gate byte : ℕ) → (has : HasBlock payloads block bytes)
+    → length (entries payloads) ≡ gate
     → take gate bytes ++ byte ∷ drop (suc gate) bytes ≡ entries payloads ++ byte ∷ (block ++ has.rest)
 gate_changed payloads block bytes gate byte has at =
     let front = entries payloads ++ has.gate ∷ [] in
@@ -83,11 +86,13 @@ opened_holds payloads payload block rest is fits = record {
 }
 
 -- any gate in front of a block: the payloads, or one more
-either_reads : (payloads : List (List ℕ)) (payload block rest : List ℕ) (byte : ℕ) → IsBlock payload block → Fit payloads → (bytes : List ℕ)
+either_reads : (payloads : List (List ℕ)) (payload block rest : List ℕ) (byte : ℕ) → IsBlock payload block
+    → Fit payloads → (bytes : List ℕ)
     → bytes ≡ entries payloads ++ byte ∷ (block ++ rest)
     → (payloads_of bytes ≡ Some payloads) ⊎ (payloads_of bytes ≡ Some (payloads ++ payload ∷ []))
 either_reads payloads payload block rest byte is fits bytes split = by_gate (byte == 1) refl where
-  by_gate : (open_gate : Bool) → (byte == 1) ≡ open_gate → (payloads_of bytes ≡ Some payloads) ⊎ (payloads_of bytes ≡ Some (payloads ++ payload ∷ []))
+  by_gate : (open_gate : Bool) → (byte == 1) ≡ open_gate
+      → (payloads_of bytes ≡ Some payloads) ⊎ (payloads_of bytes ≡ Some (payloads ++ payload ∷ []))
   by_gate false shut = inl (payloads_read payloads bytes (inl (record {
     gate = byte;
     rest = block ++ rest;
@@ -104,8 +109,10 @@ same_bytes : (p q : List ℕ) → Some p ≡ Some q → p ≡ q
 same_bytes p q same = cc
 
 -- after the first write each image has the payloads that stood
-pub staged_images : (name : List ℕ) (gate n : ℕ) (payloads : List (List ℕ)) (payload : List ℕ) (a b : Option Files) → IfTold a (StandsAt name gate payloads)
-    → Follows (StepAt name (SameOutside (gate + 1) n)) (ImagesOf a) (ImagesOf b) → Every (ImagesOf b) (HasEither name payloads payload)
+pub staged_images : (name : List ℕ) (gate n : ℕ) (payloads : List (List ℕ)) (payload : List ℕ) (a b : Option Files)
+    → IfTold a (StandsAt name gate payloads)
+    → Follows (StepAt name (SameOutside (gate + 1) n)) (ImagesOf a) (ImagesOf b)
+    → Every (ImagesOf b) (HasEither name payloads payload)
 staged_images name gate n payloads payload None b stands wrote = record { each = λ j is. absurd (wrote.from j is).was }
 staged_images name gate n payloads payload (Some fs) b stands wrote = record {
   each = λ j is.
@@ -125,7 +132,8 @@ pub record IsStaged (name : List ℕ) (gate : ℕ) (payloads : List (List ℕ)) 
   pub at : length (entries payloads) ≡ gate
   pub fit : Fit payloads
 
-staged_at : (name : List ℕ) (gate : ℕ) (payloads : List (List ℕ)) (block : List ℕ) (x y : Files) → StandsAt name gate payloads x
+staged_at : (name : List ℕ) (gate : ℕ) (payloads : List (List ℕ)) (block : List ℕ) (x y : Files)
+    → StandsAt name gate payloads x
     → Rewrites name (gate + 1) block x y → IsStaged name gate payloads block y
 staged_at name gate payloads block x y at rewrites = record {
   bytes = written at.bytes (gate + 1) block;
@@ -135,7 +143,8 @@ staged_at name gate payloads block x y at rewrites = record {
   fit = at.holds.fit;
 }
 
-pub staged : (name : List ℕ) (gate : ℕ) (payloads : List (List ℕ)) (block : List ℕ) (a b : Option Files) → IfTold a (StandsAt name gate payloads)
+pub staged : (name : List ℕ) (gate : ℕ) (payloads : List (List ℕ)) (block : List ℕ) (a b : Option Files)
+    → IfTold a (StandsAt name gate payloads)
     → Change (Rewrites name (gate + 1) block) a b → IfTold b (IsStaged name gate payloads block)
 staged name gate payloads block a b stands rewrites y is =
     let old = at_new rewrites y is in
@@ -155,8 +164,10 @@ gate_there name gate block a b stands rewrites y is =
     }
 
 -- after the second write each image has the payloads that stood, or one more
-pub opened_images : (name : List ℕ) (gate : ℕ) (payloads : List (List ℕ)) (payload block : List ℕ) (b c : Option Files) → IfTold b (IsStaged name gate payloads block) → IsBlock payload block
-    → Follows (StepAt name (SameOutside gate 1)) (ImagesOf b) (ImagesOf c) → Every (ImagesOf c) (HasEither name payloads payload)
+pub opened_images : (name : List ℕ) (gate : ℕ) (payloads : List (List ℕ)) (payload block : List ℕ) (b c : Option Files)
+    → IfTold b (IsStaged name gate payloads block) → IsBlock payload block
+    → Follows (StepAt name (SameOutside gate 1)) (ImagesOf b) (ImagesOf c)
+    → Every (ImagesOf c) (HasEither name payloads payload)
 opened_images name gate payloads payload block None c staged is wrote = record { each = λ j of_c. absurd (wrote.from j of_c).was }
 opened_images name gate payloads payload block (Some fs) c staged is wrote = record {
   each = λ j of_c.
@@ -173,8 +184,10 @@ opened_images name gate payloads payload block (Some fs) c staged is wrote = rec
 }
 
 -- after both the journal stands with one payload more
-pub opened : (name : List ℕ) (gate : ℕ) (payloads : List (List ℕ)) (payload block : List ℕ) (b c : Option Files) → IfTold b (IsStaged name gate payloads block) → IsBlock payload block
-    → Change (Rewrites name gate (1 ∷ [])) b c → IfTold c (StandsAt name (gate + length block) (payloads ++ payload ∷ []))
+pub opened : (name : List ℕ) (gate : ℕ) (payloads : List (List ℕ)) (payload block : List ℕ) (b c : Option Files)
+    → IfTold b (IsStaged name gate payloads block) → IsBlock payload block
+    → Change (Rewrites name gate (1 ∷ [])) b c
+    → IfTold c (StandsAt name (gate + length block) (payloads ++ payload ∷ []))
 opened name gate payloads payload block b c staged is rewrites z known =
     let old = at_new rewrites z known in
     let file = staged old.0 old.1 in

@@ -12,7 +12,8 @@ pub record AreRead (payloads : List (List ℕ)) (place : ℕ) : Type 0 where
 
 -- one payload further
 pub one_more : (payloads more : List (List ℕ)) (place : ℕ) (payload : List ℕ) (size : ℕ) → AreRead payloads place
-    → more ≡ payloads ++ payload ∷ [] → size ≡ length payload → size ≤ MAX_PAYLOAD_BYTES → AreRead more (place + (5 + size))
+    → more ≡ payloads ++ payload ∷ [] → size ≡ length payload → size ≤ MAX_PAYLOAD_BYTES
+    → AreRead more (place + (5 + size))
 one_more payloads more place payload size read longer sized short = rw longer (record {
   fit = fit_push payloads payload read.fit (omega arith);
   at = omega (arith, entries_push_length payloads payload, read.at);

@@ -23,6 +23,7 @@ entries_push_length (first ∷ payloads) payload =
     omega (arith, entries_push_length payloads payload, length-append first (entries payloads), length-append first (entries (payloads ++ payload ∷ [])))
 
 -- none is too long where none was and this one is not
-pub fit_push : (payloads : List (List ℕ)) (payload : List ℕ) → Fit payloads → length payload ≤ MAX_PAYLOAD_BYTES → Fit (payloads ++ payload ∷ [])
+pub fit_push : (payloads : List (List ℕ)) (payload : List ℕ) → Fit payloads → length payload ≤ MAX_PAYLOAD_BYTES
+    → Fit (payloads ++ payload ∷ [])
 fit_push [] payload fits fit = (fit, tt)
 fit_push (first ∷ payloads) payload fits fit = (fits.0, fit_push payloads payload fits.1 fit)

@@ -13,7 +13,8 @@ pub length_reads : (payload rest : List ℕ) → length payload ≤ MAX_PAYLOAD_
     → from_be_bytes w32 (take 4 (to_be_bytes w32 (length payload) ++ rest)) ≡ length payload
 length_reads payload rest fit = from_be_bytes-to_be_bytes_4 (length payload) (omega arith)
 
-payload_reads : (payload : List ℕ) (gate : ℕ) (rest : List ℕ) (size : ℕ) → size ≡ length payload → size ≤ MAX_PAYLOAD_BYTES
+payload_reads : (payload : List ℕ) (gate : ℕ) (rest : List ℕ) (size : ℕ) → size ≡ length payload
+    → size ≤ MAX_PAYLOAD_BYTES
     → payload_and_rest size (payload ++ gate ∷ rest) ≡ Some (payload, gate ∷ rest)
 payload_reads payload gate rest size is fit =
     let short : nat_lt MAX_PAYLOAD_BYTES size ≡ false = grind (arith, nat_tests) in
@@ -75,7 +76,8 @@ pub behind_first : (payload : List ℕ) (payloads : List (List ℕ)) (behind : L
 behind_first payload payloads behind = ap (λ rest. 1 ∷ (to_be_bytes w32 (length payload) ++ rest)) (append_assoc payload (entries payloads) behind)
 
 -- behind an entry stands the gate of the next or the one behind all
-entry_then : (payload : List ℕ) (payloads : List (List ℕ)) (gate : ℕ) (rest : List ℕ) → length payload ≤ MAX_PAYLOAD_BYTES
+entry_then : (payload : List ℕ) (payloads : List (List ℕ)) (gate : ℕ) (rest : List ℕ)
+    → length payload ≤ MAX_PAYLOAD_BYTES
     → behind_open (to_be_bytes w32 (length payload) ++ (payload ++ (entries payloads ++ gate ∷ rest))) ≡ Some (payload, entries payloads ++ gate ∷ rest)
 entry_then payload [] gate rest fit = entry_reads payload gate rest fit
 entry_then payload (next ∷ payloads) gate rest fit =
@@ -122,10 +124,12 @@ unfolding payloads_of
 of_short bytes short = let test : nat_le (length bytes) 1 ≡ true = grind (arith, nat_tests) in rw test refl
 
 -- what a journal holds is what it reads as
-pub payloads_read : (payloads : List (List ℕ)) (bytes : List ℕ) → HasPayloads payloads bytes → payloads_of bytes ≡ Some payloads
+pub payloads_read : (payloads : List (List ℕ)) (bytes : List ℕ) → HasPayloads payloads bytes
+    → payloads_of bytes ≡ Some payloads
 payloads_read payloads bytes (inr few) = of_short bytes few.0 ∙ ap Some (sym few.1)
 payloads_read payloads bytes (inl holds) = by_length payloads holds (nat_le (length bytes) 1) refl where
-  by_length : (payloads : List (List ℕ)) → Holds payloads bytes → (test : Bool) → nat_le (length bytes) 1 ≡ test → payloads_of bytes ≡ Some payloads
+  by_length : (payloads : List (List ℕ)) → Holds payloads bytes → (test : Bool) → nat_le (length bytes) 1 ≡ test
+      → payloads_of bytes ≡ Some payloads
   by_length payloads holds false is =
       of_long bytes (grind (arith, nat_tests)) ∙ ap (payloads_within (length bytes)) holds.split
       ∙ within_payloads payloads holds.gate holds.rest (length bytes) holds.shut holds.fit
@@ -140,7 +144,8 @@ damage_reads offset bytes damaged =
     of_long bytes damaged.long ∙ ap (payloads_within (length bytes)) damaged.split
     ∙ within_damage damaged.payloads damaged.tail (length bytes) damaged.fit damaged.broken
 
-whole_and_broken : (payload : List ℕ) (payloads : List (List ℕ)) (tail behind : List ℕ) → length payload ≤ MAX_PAYLOAD_BYTES → IsBroken tail
+whole_and_broken : (payload : List ℕ) (payloads : List (List ℕ)) (tail behind : List ℕ)
+    → length payload ≤ MAX_PAYLOAD_BYTES → IsBroken tail
     → 1 ∷ tail ≡ entries (payload ∷ payloads) ++ 1 ∷ behind → ⊥
 whole_and_broken payload payloads tail behind fit broken same =
     let reads : behind_open tail ≡ Some (payload, entries payloads ++ 1 ∷ behind) =
@@ -151,7 +156,8 @@ whole_and_broken payload payloads tail behind fit broken same =
 same_pair : (x y : List ℕ × List ℕ) → Some x ≡ Some y → (x.0 ≡ y.0) × (x.1 ≡ y.1)
 same_pair x y same = let is : x ≡ y = cc in (ap (λ p. p.0) is, ap (λ p. p.1) is)
 
-damaged_once : (first second : List (List ℕ)) (tail behind : List ℕ) → Fit first → Fit second → IsBroken tail → IsBroken behind
+damaged_once : (first second : List (List ℕ)) (tail behind : List ℕ) → Fit first → Fit second → IsBroken tail
+    → IsBroken behind
     → entries first ++ 1 ∷ tail ≡ entries second ++ 1 ∷ behind → length (entries first) ≡ length (entries second)
 damaged_once [] [] tail behind fits fit broken breaks same = refl
 damaged_once [] (payload ∷ payloads) tail behind fits fit broken breaks same = absurd (whole_and_broken payload payloads tail behind fit.0 broken same)
@@ -166,6 +172,7 @@ damaged_once (payload ∷ payloads) (other ∷ others) tail behind fits fit brok
     omega (arith, rest, ap length next.0, length-append payload (entries payloads), length-append other (entries others))
 
 -- bytes are damaged at one place
-pub damaged_at_one : (first second : ℕ) (bytes : List ℕ) → DamagedAt first bytes → DamagedAt second bytes → first ≡ second
+pub damaged_at_one : (first second : ℕ) (bytes : List ℕ) → DamagedAt first bytes → DamagedAt second bytes
+    → first ≡ second
 damaged_at_one first second bytes one other =
     sym one.at ∙ damaged_once one.payloads other.payloads one.tail other.tail one.fit other.fit one.broken other.broken (sym one.split ∙ other.split) ∙ other.at

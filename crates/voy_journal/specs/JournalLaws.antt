@@ -1,5 +1,5 @@
 -- Laws of a journal on a disk.
-use Rattle.std.proofs.Common.{◌≡◌, inl, ℕ, List, [], ◌∷◌, ◌++◌, Option, Some, None, take, refl, sym, ap, ◌∙◌, arith}
+use Rattle.std.proofs.Common.{◌≡◌, inl, ℕ, List, [], ◌∷◌, ◌++◌, Option, Some, None, take, refl, ap, ◌∙◌, arith}
 use Rattle.std.proofs.lemmas.List.{take_at}
 use Rattle.std.specs.Option.{option_map}
 use Rattle.voy_disk.specs.Calls.{Change, told, untold}
@@ -17,7 +17,8 @@ use Rattle.voy_journal.specs.GrammarLaws.{payloads_read}
 use Rattle.voy_journal.specs.Journal.{AddsPayloads, HasJournal, KeepsPayloads, Stands, StandsAt, payloads_before}
 
 -- where a journal stands, every image has its payloads
-pub stands_in_every : (files : Option Files) (name : List ℕ) (place : ℕ) (payloads : List (List ℕ)) → IfTold files (StandsAt name place payloads)
+pub stands_in_every : (files : Option Files) (name : List ℕ) (place : ℕ) (payloads : List (List ℕ))
+    → IfTold files (StandsAt name place payloads)
     → HasJournal name payloads (ImagesOf files)
 stands_in_every None name place payloads stands = record { each = λ image is. absurd is }
 stands_in_every (Some fs) name place payloads stands = record {
@@ -36,7 +37,8 @@ stands_front fs name place payloads at =
     ∙ take_at (entries payloads) (at.holds.gate ∷ at.holds.rest) place at.at
 
 -- entries with a closed gate behind them are the journal of their payloads
-pub closed_entries : (payloads : List (List ℕ)) → Fit payloads → payloads_of (entries payloads ++ 0 ∷ []) ≡ Some payloads
+pub closed_entries : (payloads : List (List ℕ)) → Fit payloads
+    → payloads_of (entries payloads ++ 0 ∷ []) ≡ Some payloads
 closed_entries payloads fit = payloads_read payloads (entries payloads ++ 0 ∷ []) (inl (record {
   gate = 0;
   rest = [];
@@ -52,8 +54,10 @@ stands_known fs name place payloads at =
     ap (λ front. payloads_of (front ++ 0 ∷ [])) (stands_front fs name place payloads at) ∙ closed_entries payloads at.holds.fit
 
 -- a journal whose file another call left still stands, with the same payloads
-pub stands_beside : (name : List ℕ) (place : ℕ) (payloads : List (List ℕ)) (among : List ℕ → Type 0) {old new : Option Files} → (among name → ⊥)
-    → Change (KeepsBeside among) old new → IfTold old (StandsAt name place payloads) → IfTold new (StandsAt name place payloads)
+pub stands_beside : (name : List ℕ) (place : ℕ) (payloads : List (List ℕ)) (among : List ℕ → Type 0) {old new : Option Files}
+    → (among name → ⊥)
+    → Change (KeepsBeside among) old new → IfTold old (StandsAt name place payloads)
+    → IfTold new (StandsAt name place payloads)
 stands_beside name place payloads among apart keeps stands y is =
     let old = at_new keeps y is in
     let at = stands old.0 old.1 in
@@ -75,17 +79,20 @@ known_beside name place among apart (told {old = x} {new = y} keeps) =
     ap (λ found. payloads_of (take place (bytes_now found) ++ 0 ∷ [])) (keeps name apart)
 
 -- and has them in every image
-pub has_beside : (name : List ℕ) (payloads : List (List ℕ)) (among : List ℕ → Type 0) {old new : Image → Type 0} → (among name → ⊥)
+pub has_beside : (name : List ℕ) (payloads : List (List ℕ)) (among : List ℕ → Type 0) {old new : Image → Type 0}
+    → (among name → ⊥)
     → Follows (KeepsBeside among) old new → HasJournal name payloads old → HasJournal name payloads new
 has_beside name payloads among apart keeps has =
     every_along has keeps (λ i j before step. ap (λ found. payloads_of (bytes_in found)) (step name apart) ∙ before)
 
 -- what a journal has in every image it still has where each image keeps its payloads
-pub has_still : (name : List ℕ) (payloads : List (List ℕ)) (old new : Image → Type 0) → HasJournal name payloads old → Follows (KeepsPayloads name) old new → HasJournal name payloads new
+pub has_still : (name : List ℕ) (payloads : List (List ℕ)) (old new : Image → Type 0) → HasJournal name payloads old
+    → Follows (KeepsPayloads name) old new → HasJournal name payloads new
 has_still name payloads old new has kept = every_along has kept (λ i j before step. step.payloads ∙ before)
 
 -- and it has more where each image has more
-pub has_more : (name : List ℕ) (payloads added : List (List ℕ)) (old new : Image → Type 0) → HasJournal name payloads old → Follows (AddsPayloads name added) old new
+pub has_more : (name : List ℕ) (payloads added : List (List ℕ)) (old new : Image → Type 0)
+    → HasJournal name payloads old → Follows (AddsPayloads name added) old new
     → HasJournal name (payloads ++ added) new
 has_more name payloads added old new has more =
     every_along has more (λ i j before step. step.payloads ∙ ap (option_map (λ (found : List (List ℕ)). found ++ added)) before)

@@ -6,7 +6,7 @@
 
 ghost use Rattle.std.specs.Prelude.{◌≡◌, ◌≤◌, None, length, IsTrue};
 ghost use Rattle.voy_disk.specs.Calls.{IsThereWith};
-ghost use Rattle.voy_disk.specs.Files.{Told};
+ghost use Rattle.voy_disk.specs.Files.{IfTold};
 
 use crate::made::name_of;
 use std::alloc::{AllocError, Global};
@@ -18,15 +18,15 @@ use voy_disk::{Disk, DiskError, HostDisk, MemDisk, Name, SureDisk};
 pub(crate) trait Tried: Disk {
     /// Whether the file is there and has so many bytes, as far as the disk tells.
     fn reaches(&self, name: &Name, count: u64) -> bool
-        ensures { IsTrue result → Told (Self.files self.now) (λ fs. IsThereWith (λ file. count ≤ length file.now) (fs name.now)) };
+        ensures { IsTrue result → IfTold (Self.files self.now) (λ fs. IsThereWith (λ file. count ≤ length file.now) (fs name.now)) };
 
     /// Whether the file is there, as far as the disk tells.
     fn has(&self, name: &Name) -> bool
-        ensures { IsTrue result → Told (Self.files self.now) (λ fs. IsThereWith (λ _. Unit {0}) (fs name.now)) };
+        ensures { IsTrue result → IfTold (Self.files self.now) (λ fs. IsThereWith (λ _. Unit {0}) (fs name.now)) };
 
     /// Whether the name is free, as far as the disk tells.
     fn is_free(&self, name: &Name) -> bool
-        ensures { IsTrue result → Told (Self.files self.now) (λ fs. fs name.now ≡ None) };
+        ensures { IsTrue result → IfTold (Self.files self.now) (λ fs. fs name.now ≡ None) };
 
     /// How many faults there were, where the disk tells its callers.
     fn fault_count(&self) -> Option<u64>;

@@ -282,6 +282,7 @@ impl<R: Files + Drop> HostDisk<R> {
 
 #[tactic(auto, using(crate::proofs::Untold::leaves_untold))]
 impl<R: Files + Drop> Disk for HostDisk<R> {
+    ghost use Rattle.voy_disk.specs.Files.{AreShort, ReadsImages, told_none};
     ghost use Rattle.voy_disk.specs.HostDisk.{host_disk_faults};
 
     ghost files = { λ _. None };
@@ -363,7 +364,7 @@ impl<R: Files + Drop> Disk for HostDisk<R> {
         self.counted(renamed)
     }
 
-    ghost reads_an_image = { λ _. tt };
+    ghost reads_an_image = { λ _. told_none ReadsImages };
 
-    ghost has_short_files = { λ _. tt };
+    ghost has_short_files = { λ _. told_none AreShort };
 }

@@ -2,7 +2,7 @@ ghost use base.Fml.{GName};
 ghost use Rattle.std.specs.Prelude.{◌≡◌, ◌≤◌, ◌<◌, ◌+◌, ◌^◌, ◌↔◌, ℕ, [], Some, None, length, IfErr, IfOk, IfSome, OnOk, OnErr, IsOk};
 ghost use Rattle.std.specs.Option.{option_map};
 ghost use Rattle.voy_disk.specs.Calls.{Changes, Created, CutFailed, DoneOrNot, IsThereWith, Leaves, Lists, Renamed, Smeared, SyncFailed, Synced, WasCut, Wrote};
-ghost use Rattle.voy_disk.specs.Files.{Files, Told, Puts, length_of, bytes_now, Reads, NothingToRead};
+ghost use Rattle.voy_disk.specs.Files.{Files, IfTold, Puts, length_of, bytes_now, Reads, NothingToRead};
 ghost use Rattle.voy_disk.specs.MemFiles.{shown, files_read_images, files_are_short};
 
 use crate::disk::{Disk, DiskError};

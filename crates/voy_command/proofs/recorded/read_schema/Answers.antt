@@ -1,6 +1,6 @@
 use Rattle.std.proofs.Common.{◌≡◌, ℕ, List, Some, ap, ◌∙◌, is_some, true}
 use Rattle.std.proofs.lemmas.Result.{IfErr-weaker, IfOk-weaker}
-use Rattle.voy_disk.specs.Files.{Files, bytes_now, told_at}
+use Rattle.voy_disk.specs.Files.{Files, bytes_now}
 use Rattle.voy_command.specs.Files.{file_bytes, schema_name}
 use Rattle.voy_command.specs.Recorded.{recorded_schema}
 use Rattle.voy_command.proofs.DryRunLaws.{file_there}
@@ -13,9 +13,9 @@ reads_schema : (g : Over) (c : goal.After-drop-name-inside g) (fs : Files) → g
     → file_bytes (fs schema_name) ≡ Some c.as_slice.result.now
 reads_schema g c fs is =
     let there : true ≡ is_some (fs c.in-Ok.name) =
-    told_at (g.D.Disk.files c.args.recording.now) _ (rw c.in-Ok-Some.field-0-is at c.in-Ok-Some.ensures.found) fs is in
+    (rw c.in-Ok-Some.field-0-is at c.in-Ok-Some.ensures.found) fs is in
     let whole : c.in-Ok-Some.bytes.items ≡ bytes_now (fs c.in-Ok.name) =
-    told_at (g.D.Disk.files c.args.recording.now) _ (rw c.in-Ok-Some.field-0-is at c.in-Ok-Some.ensures.whole) fs is in
+    (rw c.in-Ok-Some.field-0-is at c.in-Ok-Some.ensures.whole) fs is in
     file_there (fs schema_name) c.as_slice.result.now (there ∙ ap (λ (name : List ℕ). is_some (fs name)) c.in-Ok.ensures)
     (c.as_slice.ensures.value ∙ whole ∙ ap (λ (name : List ℕ). bytes_now (fs name)) c.in-Ok.ensures)
 

@@ -1,6 +1,6 @@
 use Rattle.std.proofs.Common.{◌≡◌, ap, ◌∙◌, false, List, ℕ}
 use Rattle.std.proofs.lemmas.Result.{IfErr-weaker, IfOk-weaker}
-use Rattle.voy_disk.specs.Files.{Files, bytes_now, told_at}
+use Rattle.voy_disk.specs.Files.{Files, bytes_now}
 use Rattle.voy_files.specs.Reader.{unread}
 use Rattle.voy_files.specs.declared.line_reader.LineReader.{LineReader}
 use Rattle.voy_schema.specs.declared.schema.Schema.{Schema}
@@ -27,7 +27,7 @@ pub returns-in-Ok-Some-clause-ok : goal.returns-in-Ok-Some-clause-ok
 returns-in-Ok-Some-clause-ok g c =
     IfOk-weaker c.fold_lines.result _ _ (λ done outcome fs is.
     whole_segment c.args.schema.tables c.in-Ok.fold c.in-Ok-Some.reader fs c.in-Ok-segment_file.name
-    (told_at (g.D.Disk.files c.args.export.now) _ (rw c.in-Ok-Some.field-0-is at c.in-Ok-Some.ensures.absent) fs is) c.in-Ok-segment_file.ensures
+    ((rw c.in-Ok-Some.field-0-is at c.in-Ok-Some.ensures.absent) fs is) c.in-Ok-segment_file.ensures
     (ap (λ (s : Schema). s.tables) c.in-Ok.ensures.schema) c.in-Ok.ensures.lists c.in-Ok.ensures.last c.in-Ok.ensures.ended
     ∙ outcome fs (c.open.ensures.same ∙ is)) c.fold_lines.ensures.ok
 
@@ -37,7 +37,7 @@ returns-in-Ok-Some-clause-err g c =
     (λ a stop. stops_along _ a _ _ _ _ _ (rose_from _ _ _ c.open.ensures.cause.later)
     (λ outcome. λ fs is.
     whole_segment c.args.schema.tables c.in-Ok.fold c.in-Ok-Some.reader fs c.in-Ok-segment_file.name
-    (told_at (g.D.Disk.files c.args.export.now) _ (rw c.in-Ok-Some.field-0-is at c.in-Ok-Some.ensures.absent) fs is) c.in-Ok-segment_file.ensures
+    ((rw c.in-Ok-Some.field-0-is at c.in-Ok-Some.ensures.absent) fs is) c.in-Ok-segment_file.ensures
     (ap (λ (s : Schema). s.tables) c.in-Ok.ensures.schema) c.in-Ok.ensures.lists c.in-Ok.ensures.last c.in-Ok.ensures.ended
     ∙ outcome fs (c.open.ensures.same ∙ is))
     stop)

@@ -2,11 +2,10 @@ use Rattle.std.proofs.Common.{◌<◌, ◌++◌, ◌∙◌, arith, ap, drop, len
 use Rattle.voy_disk.specs.Files.{bytes_now}
 use Rattle.voy_files.specs.Bytes.{held}
 use Rattle.voy_files.proofs.Pieces.{moved_before}
-use Rattle.voy_files.proofs.Told.{told_from}
 use Rattle.voy_files.proofs.whole.read_file.Goals as goal
 
 pub returns-in_default-clause-whole : goal.returns-in_default-clause-whole
-returns-in_default-clause-whole g c = told_from (g.D.Disk.files c.args.disk.now) _ (λ fs is. (rw c.in_default.is at c.in_ok-reader.ensures.absent) fs is)
+returns-in_default-clause-whole g c = rw c.in_default.is at c.in_ok-reader.ensures.absent
 
 pub pieces-init : goal.pieces-init
 pieces-init g c = record {

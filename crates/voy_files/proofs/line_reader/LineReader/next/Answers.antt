@@ -3,8 +3,6 @@ use Rattle.voy_files.specs.Reader.{found_line, line_limit, unread}
 use Rattle.voy_files.proofs.Finding.{finds_with, long_line}
 use Rattle.voy_files.proofs.Reading.{still_read, reads_to_feed, reads_on, fewer_left}
 use Rattle.voy_files.proofs.Standing.{no_feed, stands_behind, stands_last, stands_on, still_stands}
-use Rattle.voy_disk.specs.Files.{told_at}
-use Rattle.voy_files.proofs.Told.{told_from}
 use Rattle.voy_files.proofs.line_reader.LineReader.next.Goals as goal
 
 pub returns-then-branch-clause-found : goal.returns-then-branch-clause-found
@@ -12,11 +10,11 @@ returns-then-branch-clause-found g c =
     let first = c.args.self.now in
     let was = c.loop-self.self in
     let reader = c.is_at_end.new.self in
-    told_from (g.D.Disk.files c.args.disk.now) _ (λ fs is.
+    (λ fs is.
     let at_loop = c.loop-self.invariant.same ∙ is in
-    let so_far = told_at (g.D.Disk.files c.args.disk.now) _ c.loop-self.invariant.so_far fs is in
-    let left = told_at (g.D.Disk.files c.loop-self.disk) _ c.in_ok-is_at_end.ensures.left fs at_loop in
-    let kept = told_at (g.D.Disk.files c.loop-self.disk) _ c.in_ok-is_at_end.ensures.unread fs at_loop in
+    let so_far = c.loop-self.invariant.so_far fs is in
+    let left = c.in_ok-is_at_end.ensures.left fs at_loop in
+    let kept = c.in_ok-is_at_end.ensures.unread fs at_loop in
     let none : unread was fs ≡ [] = left.0 c.if-branch.true in
     finds_with c.last_found.result (line_limit reader) (line_limit first) (found_line reader) (unread first fs) [] (unread reader fs)
     (sym (c.in_ok-is_at_end.ensures.limit ∙ c.loop-self.invariant.limit)) (kept ∙ none)
@@ -29,10 +27,10 @@ returns-then-branch-2-clause-found g c =
     let was = c.loop-self.self in
     let reader = c.is_at_end.new.self in
     let after = c.take_piece.new.self in
-    told_from (g.D.Disk.files c.args.disk.now) _ (λ fs is.
+    (λ fs is.
     let at_loop = c.loop-self.invariant.same ∙ is in
-    let so_far = told_at (g.D.Disk.files c.args.disk.now) _ c.loop-self.invariant.so_far fs is in
-    let kept = told_at (g.D.Disk.files c.loop-self.disk) _ c.in_ok-is_at_end.ensures.unread fs at_loop in
+    let so_far = c.loop-self.invariant.so_far fs is in
+    let kept = c.in_ok-is_at_end.ensures.unread fs at_loop in
     let begun = still_read (unread first fs) (found_line was) (found_line reader) (unread was fs) (unread reader fs)
     c.in_ok-is_at_end.ensures.line kept so_far in
     let read = reads_to_feed fs (unread first fs) c.in_ok-take_piece.field-0 reader after begun
@@ -72,13 +70,13 @@ pub returns-clause-found : goal.returns-clause-found
 returns-clause-found g c =
     let first = c.args.self.now in
     let was = c.loop-self.self in
-    told_from (g.D.Disk.files c.args.disk.now) _ (λ fs is.
-    let so_far = told_at (g.D.Disk.files c.args.disk.now) _ c.loop-self.invariant.so_far fs is in
+    (λ fs is.
+    let so_far = c.loop-self.invariant.so_far fs is in
     long_line (line_limit first) (unread first fs) (found_line was) (unread was fs) so_far (omega (arith, was.line.ok.0)))
 
 pub loop-self-init : goal.loop-self-init
 loop-self-init g c = record {
-  so_far = told_from (g.D.Disk.files c.args.disk.now) _ (λ fs is.
+  so_far = (λ fs is.
       still_read (unread c.args.self.now fs) [] c.clear.new.self.items (unread c.args.self.now fs) (unread c.args.self.now fs)
       c.clear.ensures.items refl (record { split = refl; one = refl }));
   same = refl;
@@ -97,10 +95,10 @@ loop-self-preserved g c =
     let reader = c.is_at_end.new.self in
     let after = c.take_piece.new.self in
     record {
-      so_far = told_from (g.D.Disk.files c.args.disk.now) _ (λ fs is.
+      so_far = (λ fs is.
           let at_loop = c.loop-self.invariant.same ∙ is in
-          let so_far = told_at (g.D.Disk.files c.args.disk.now) _ c.loop-self.invariant.so_far fs is in
-          let kept = told_at (g.D.Disk.files c.loop-self.disk) _ c.in_ok-is_at_end.ensures.unread fs at_loop in
+          let so_far = c.loop-self.invariant.so_far fs is in
+          let kept = c.in_ok-is_at_end.ensures.unread fs at_loop in
           let begun = still_read (unread first fs) (found_line was) (found_line reader) (unread was fs) (unread reader fs)
           c.in_ok-is_at_end.ensures.line kept so_far in
           reads_on fs (unread first fs) c.in_ok-take_piece.field-0 reader after begun
