@@ -40,7 +40,7 @@ fn shown_rows(alloc: Global, read: &Result<Rows, RowError>) -> Result<String, Tr
             Ok(shown)
         }
         Err(RowError::Bad { line, why }) => {
-            let why = why_text(*why);
+            let why = (*why).text();
             let shown = format!(in alloc; "record {line} is refused, {why}")?;
             Ok(shown)
         }
