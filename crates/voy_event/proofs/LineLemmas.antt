@@ -1,5 +1,5 @@
 -- The line of a lawful event stands in a segment: it has no LF, and begins as an object does.
-use Rattle.std.proofs.Common.{◌≡◌, ◌≢◌, ℕ, ◌<◌, ◌^◌, List, [], ◌∷◌, Bool, true, Option, Some, None, ap, arith, get_or, refl, sym, ◌∙◌}
+use Rattle.std.proofs.Common.{◌≡◌, ℕ, ◌<◌, ◌^◌, List, true, Option, Some, None, ap, arith, get_or, refl, sym, ◌∙◌}
 use Rattle.std.specs.Prelude.{codes, slice_get}
 use Rattle.json.proofs.Printed.Utf8.{IsUtf8-are_ascii}
 use Rattle.serde_json.specs.Data.{Data}
@@ -15,11 +15,10 @@ use Rattle.voy_tables.specs.declared.change.Role.{Role}
 use Rattle.voy_event.proofs.CanonicalLemmas.{change_is_canonical, cutover_is_canonical}
 use Rattle.voy_event.proofs.ReadBack.{belongs_to, no_table, rows_of}
 use Rattle.voy_event.specs.Events.{closing_line}
-use Rattle.voy_event.specs.LawfulEvent.{IsLawful, IsLawfulFrom}
+use Rattle.voy_event.specs.LawfulEvent.{IsLawfulFrom}
 use Rattle.voy_event.specs.Laws.{LinesStandInSegments}
 use Rattle.voy_event.specs.LineText.{change_data, change_data_in, cutover_data, event_data, line_text, what_data}
 use Rattle.voy_tables.specs.Changes.{table_of}
-use Rattle.voy_event.specs.declared.event.Event.{Event}
 use Rattle.voy_event.specs.declared.event.What.{What}
 use Rattle.voy_event.specs.declared.event.What.TheVariants as what
 

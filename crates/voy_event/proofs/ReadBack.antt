@@ -12,7 +12,7 @@ use Rattle.voy_json.specs.CanonicalLaws.{data_of_bytes-compact_text}
 use Rattle.voy_json.specs.Document.{data_of_bytes}
 use Rattle.voy_schema.specs.Lawful.{is_lawful}
 use Rattle.voy_schema.specs.LawfulLaws.{LawfulParts, place_of-at, table_is_lawful, table_parts}
-use Rattle.voy_schema.specs.Rows.{has_lawful_values, is_lawful_row, text_of, values_at}
+use Rattle.voy_schema.specs.Rows.{is_lawful_row, text_of, values_at}
 use Rattle.voy_schema.specs.declared.table.Table.{Table}
 use Rattle.voy_schema.specs.declared.value.Value.{Value}
 use Rattle.voy_tables.specs.SameLaws.{same_key-decides}

@@ -1,15 +1,15 @@
 -- What a reading of a line's change gives: rows that are lawful for the table that the line names.
-use Rattle.std.specs.Prelude.{◌≡◌, ◌≤◌, ◌<◌, ◌^◌, ℕ, Bool, true, false, List, [], ◌∷◌, ◌&&◌, Option, Some, None, Result, Ok, Err, codes, length, map, not, option_and_then, option_map, slice_get, nat_le, nat_lt, if◌then◌else◌, refl}
+use Rattle.std.specs.Prelude.{◌≡◌, ℕ, Bool, true, false, List, [], ◌∷◌, ◌&&◌, Option, Some, None, Result, Ok, Err, codes, map, not, option_and_then, option_map, slice_get, if◌then◌else◌, refl}
 use Rattle.std.specs.List.{list_all}
-use Rattle.std.specs.Option.{ok_or, option_map_or}
+use Rattle.std.specs.Option.{option_map_or}
 use Rattle.std.specs.Str.{bytes_eq}
 use Rattle.std.proofs.Common.{ap, sym, subst, ◌∙◌}
-use Rattle.std.proofs.lemmas.Bool.{and_from, and_parts, leb-true, ltb-false, ltb-true}
+use Rattle.std.proofs.lemmas.Bool.{and_from, and_parts}
 use Rattle.std.proofs.lemmas.Cmp.{nat_list_eq_equiv, lists_equiv}
 use Rattle.std.proofs.lemmas.Slice.Eq.{bytes_eq-Decides}
 use Rattle.serde_json.specs.Data.{Data}
-use Rattle.serde_json.specs.Find.{as_number, as_u64, get}
-use Rattle.voy_json.specs.Document.{data_of_bytes, has_names, has_only_names, is_object}
+use Rattle.serde_json.specs.Find.{get}
+use Rattle.voy_json.specs.Document.{has_names, has_only_names}
 use Rattle.voy_schema.specs.Lawful.{place_of}
 use Rattle.voy_schema.specs.Rows.{is_lawful_row, key_of, text_of, value_at, values_at}
 use Rattle.voy_schema.specs.declared.table.Column.{Column}
@@ -19,23 +19,13 @@ use Rattle.voy_tables.specs.Changes.{is_row_of, is_well_formed}
 use Rattle.voy_tables.specs.Keys.{same_key}
 use Rattle.voy_tables.specs.declared.change.Change.{Change}
 use Rattle.voy_tables.specs.declared.change.Change.TheVariants as change
-use Rattle.voy_tables.specs.declared.change.Role.{Role}
-use Rattle.voy_tables.specs.declared.change.Role.TheVariants as exporter
 use Rattle.voy_event.specs.ChangeLine.{PlacedTable, change_of, has_long_row, placed, table_named}
-use Rattle.voy_event.specs.InTurn.{change_event, cutover_event, cutover_vsn, document_in_turn, kind_in_turn, known_in_turn, named_in_turn, stamped, table_in_turn, within_limit}
-use Rattle.voy_event.specs.InTurnLaws.{line_is_in_turn}
-use Rattle.voy_event.specs.EventLine.{change_event_names, cutover_names, from_one, has_exporter, line_reading, max_event_line_bytes, vsn_at}
+use Rattle.voy_event.specs.InTurn.{known_in_turn, named_in_turn, table_in_turn, within_limit}
 use Rattle.voy_event.specs.Fields.{agrees_at, is_key_of_row, only_if, row_at, row_of, row_with_key}
-use Rattle.voy_event.specs.LawfulEvent.{IsLawful, IsLawfulChange, IsLawfulFrom, IsWritable, IsWritableWhat}
-use Rattle.voy_event.specs.Words.{event_kind, in_64_bits, number_at, role_at}
+use Rattle.voy_event.specs.LawfulEvent.{IsLawfulChange}
 use Rattle.voy_json.specs.Document.{text_at}
-use Rattle.voy_event.specs.declared.event.Event.{Event}
-use Rattle.voy_event.specs.declared.event.What.{What}
-use Rattle.voy_event.specs.declared.event.What.TheVariants as what
 use Rattle.voy_event.specs.declared.line_error.LineWhy.{LineWhy}
 use Rattle.voy_event.specs.declared.line_error.LineWhy.TheVariants as why
-use Rattle.voy_event.specs.declared.words.EventKind.{EventKind}
-use Rattle.voy_event.specs.declared.words.EventKind.TheVariants as kind
 use Rattle.voy_event.specs.declared.words.Op.{Op}
 use Rattle.voy_event.specs.declared.words.Op.TheVariants.{Insert, Update, Delete}
 

@@ -1,19 +1,18 @@
 -- The readings that the program makes rule by rule are those of the tables of rules.
 use Rattle.std.specs.Prelude.{◌≡◌, ℕ, Bool, true, false, List, Option, Some, None, Result, Ok, Err, codes, is_some, length, nat_lt, not, option_and_then, option_map, refl, if◌then◌else◌}
-use Rattle.std.specs.Option.{ok_or}
-use Rattle.std.proofs.Common.{ap, subst, sym, ◌∙◌}
+use Rattle.std.proofs.Common.{subst, sym, ◌∙◌}
 use Rattle.serde_json.specs.Data.{Data}
 use Rattle.voy_json.specs.Document.{data_of_bytes, has_names, has_only_names, is_object}
 use Rattle.voy_schema.specs.declared.table.Table.{Table}
 use Rattle.voy_tables.specs.declared.change.Change.{Change}
 use Rattle.voy_tables.specs.declared.change.Role.{Role}
 use Rattle.voy_tables.specs.declared.change.Role.TheVariants as exporter
-use Rattle.voy_event.specs.ChangeLine.{PlacedTable, change_of, has_known_columns, has_known_names, has_known_table, has_long_row, table_at, table_named}
+use Rattle.voy_event.specs.ChangeLine.{PlacedTable, change_of, has_known_columns, has_known_names, has_long_row, table_at, table_named}
 use Rattle.voy_event.specs.EventLine.{broken_rule, change_event_names, cutover_names, event, has_exporter, has_long_rows, line_reading, max_event_line_bytes, stated_event, vsn_at}
 use Rattle.voy_event.specs.InTurn.{change_event, cutover_event, cutover_vsn, document_in_turn, kind_in_turn, line_in_turn, recorded_change, recorded_document_in_turn, recorded_in_turn, recorded_op_in_turn, spotted, stamped, table_in_turn, within_limit}
 use Rattle.voy_event.specs.RecordedLine.{broken_recorded_rule, max_recorded_line_bytes, recorded_names, recorded_line_reading, stated_record}
 use Rattle.voy_event.specs.Refusal.{unless_broken}
-use Rattle.voy_event.specs.Words.{change_op, document, event_kind, number_at, or_null, role_at}
+use Rattle.voy_event.specs.Words.{change_op, event_kind, number_at, or_null, role_at}
 use Rattle.voy_json.specs.Document.{text_at}
 use Rattle.voy_event.specs.declared.event.Event.{Event}
 use Rattle.voy_event.specs.declared.event.What.{What}

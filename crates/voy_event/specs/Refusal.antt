@@ -1,5 +1,5 @@
 -- What a refusal of a line says.
-use Rattle.std.specs.Prelude.{◌≡◌, ℕ, List, Option, Some, None, Result, Err, codes}
+use Rattle.std.specs.Prelude.{ℕ, List, Option, Some, None, Result, Err, codes}
 use Rattle.std.specs.Option.{ok_or}
 use Rattle.voy_event.specs.declared.line_error.LineError.{LineError}
 use Rattle.voy_event.specs.declared.line_error.LineError.TheVariants.{Bad, NoMemory}

@@ -1,5 +1,5 @@
 -- Which tables the bytes of `schema.json` state, and the first rule that they break.
-use Rattle.std.specs.Prelude.{◌≡◌, ℕ, ◌+◌, Bool, List, [], ◌∷◌, ◌++◌, ◌&&◌, length, map, nat_le, not, Option, Some, None, Result, Ok, Err, is_some, option_and_then, codes, if◌then◌else◌}
+use Rattle.std.specs.Prelude.{ℕ, ◌+◌, Bool, List, [], ◌∷◌, ◌++◌, ◌&&◌, length, map, nat_le, not, Option, Some, None, Result, Ok, Err, is_some, option_and_then, codes, if◌then◌else◌}
 use Rattle.std.specs.List.{list_all, list_any, position_or_len}
 use Rattle.std.specs.Str.{bytes_eq}
 use Rattle.serde_json.specs.Data.{Data, Items, no_items, item}
