@@ -10,7 +10,7 @@ use crate::text::Text;
 use crate::tuple::Tuple;
 use std::cmp::Ordering;
 
-// Texts are compared byte by byte, and lists item by item. So keys are compared as maps keep them.
+// Texts are compared byte by byte, and tuples item by item. So keys are compared as maps keep them.
 
 impl PartialEq for Text {
     ghost eq = { pointwise nat_eq };
@@ -62,30 +62,6 @@ impl<T: PartialEq> PartialEq for Items<T> {
 
 impl<T: Eq> Eq for Items<T> {
     ghost laws = { lists_equiv T.Eq.laws };
-}
-
-impl<T: PartialOrd> PartialOrd for Items<T> {
-    ghost partial_cmp = { slice_partial_cmp T.partial_cmp };
-
-    ghost laws = { lists_po T.PartialOrd.laws };
-
-    fn partial_cmp(&self, other: &Self) -> Option<Ordering> {
-        partial_order(self.as_slice(), other.as_slice())
-    }
-}
-
-impl<T: Ord> Ord for Items<T> {
-    ghost cmp = { slice_cmp T.cmp };
-
-    ghost total = { lists_total T.total };
-
-    ghost matches_partial_cmp = { lists_agrees T.matches_partial_cmp };
-
-    ghost matches_eq = { lists_ties T.cmp T.matches_eq };
-
-    fn cmp(&self, other: &Self) -> Ordering {
-        order(self.as_slice(), other.as_slice())
-    }
 }
 
 impl<T: Abbreviate> PartialEq for Tuple<T> {
