@@ -1,7 +1,7 @@
 -- What the parts of a dry run make of its answer and of its output.
-use Rattle.std.proofs.Common.{◌≡◌, ℕ, Bool, true, false, ◌||◌, List, [], Option, Some, None, refl, sym, ap, inl, inr, add-zero, append-nil, subst, arith, is_some}
+use Rattle.std.proofs.Common.{◌≡◌, ℕ, Bool, true, false, ◌||◌, List, [], Option, Some, None, refl, sym, ap, inl, inr, add-zero, append-nil, subst, arith, is_some, true≢false}
 use Rattle.voy_disk.specs.File.{File}
-use Rattle.voy_disk.specs.Files.{Files, bytes_now}
+use Rattle.voy_disk.specs.Files.{Files, bytes_now, length_of}
 use Rattle.voy_disk.specs.Written.{GotFront, grown}
 use Rattle.voy_command.specs.DryRunAnswered.{ComesFrom, IsPrinted, StopsDryRun, WithOutcome}
 use Rattle.voy_command.specs.DryRun.{Outcome, refusing, shown}
@@ -75,6 +75,16 @@ or_false false = refl
 -- behind the last line the outcome is the fold's own
 pub ends : (f : Fold) → outcome_from f [] ≡ shown f.plain.schema.tables f.plain.lists f.last f.ended
 ends f = rw (add-zero f.last, or_false f.ended) refl
+
+-- a file has a length exactly where it is there
+pub has_length : (found : Option File) → is_some (length_of found) ≡ is_some found
+has_length None = refl
+has_length (Some file) = refl
+
+-- a file that is not there has no bytes
+pub no_bytes : (found : Option File) → false ≡ is_some found → file_bytes found ≡ None
+no_bytes None absent = refl
+no_bytes (Some file) absent = absurd (true≢false (sym absent))
 
 -- the bytes of a file that is there
 pub file_there : (file : Option File) (bytes : List ℕ) → true ≡ is_some file → bytes ≡ bytes_now file → file_bytes file ≡ Some bytes

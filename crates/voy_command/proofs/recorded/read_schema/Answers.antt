@@ -1,9 +1,10 @@
-use Rattle.std.proofs.Common.{◌≡◌, ℕ, List, Some, ap, ◌∙◌, is_some, true}
+use Rattle.std.proofs.Common.{◌≡◌, ℕ, List, Some, ap, ◌∙◌, inr, is_some, refl, true}
 use Rattle.std.proofs.lemmas.Result.{IfErr-weaker, IfOk-weaker}
 use Rattle.voy_disk.specs.Files.{Files, bytes_now}
 use Rattle.voy_command.specs.Files.{file_bytes, schema_name}
+use Rattle.voy_command.specs.declared.answer.Cause.TheVariants.{MissingSchema}
 use Rattle.voy_command.specs.Recorded.{recorded_schema}
-use Rattle.voy_command.proofs.DryRunLaws.{file_there}
+use Rattle.voy_command.proofs.DryRunLaws.{file_there, no_bytes}
 use Rattle.voy_command.proofs.ShowLaws.{refuses_schema}
 use Rattle.voy_command.proofs.recorded.read_schema.Given.{Over}
 use Rattle.voy_command.proofs.recorded.read_schema.Goals as goal
@@ -28,3 +29,11 @@ returns-in-Ok-Some-clause-err g c =
     IfErr-weaker c.schema_of.result _ _
     (λ a stop. refuses_schema a _ _ _ (λ cause refuses. λ fs is. ap recorded_schema (reads_schema g c fs is) ∙ refuses) stop)
     c.schema_of.ensures.err
+
+pub returns-in-Ok-None-clause-err : goal.returns-in-Ok-None-clause-err
+returns-in-Ok-None-clause-err g c = inr (inr (
+  MissingSchema,
+  refl,
+  λ fs is. ap recorded_schema (no_bytes (fs schema_name)
+      ((rw c.in-Ok-None.field-0-is at c.in-Ok-None.ensures.found) fs is ∙ ap (λ (name : List ℕ). is_some (fs name)) c.in-Ok.ensures)),
+))

@@ -1,4 +1,4 @@
-use Rattle.std.proofs.Common.{◌≡◌, ap, ◌∙◌, false, List, ℕ}
+use Rattle.std.proofs.Common.{◌≡◌, ap, ◌∙◌, false, is_some, List, [], ℕ}
 use Rattle.std.proofs.lemmas.Result.{IfErr-weaker, IfOk-weaker}
 use Rattle.voy_disk.specs.Files.{Files, bytes_now}
 use Rattle.voy_files.specs.Reader.{unread}
@@ -11,6 +11,7 @@ use Rattle.voy_command.specs.Files.{file_bytes, segment_name}
 use Rattle.voy_command.specs.Folding.{outcome_from, unread_lines}
 use Rattle.voy_command.specs.Segment.{event_lines}
 use Rattle.voy_command.specs.declared.fold.Fold.{Fold}
+use Rattle.voy_command.proofs.DryRunLaws.{no_bytes}
 use Rattle.voy_command.proofs.SegmentLaws.{begins, file_lines, rose_from, stops_along}
 use Rattle.voy_command.proofs.segment.fold_segment.Goals as goal
 
@@ -42,3 +43,9 @@ returns-in-Ok-Some-clause-err g c =
     ∙ outcome fs (c.open.ensures.same ∙ is))
     stop)
     c.fold_lines.ensures.err
+
+pub returns-in-Ok-None-clause-ok : goal.returns-in-Ok-None-clause-ok
+returns-in-Ok-None-clause-ok g c = λ fs is.
+    ap (λ found. outcome_of_lines c.args.schema.tables (event_lines found)) (no_bytes (fs segment_name)
+    ((rw c.in-Ok-None.field-0-is at c.in-Ok-None.ensures.found) fs is ∙ ap (λ (name : List ℕ). is_some (fs name)) c.in-Ok-segment_file.ensures))
+    ∙ begins c.args.schema.tables c.in-Ok.fold [] (ap (λ (s : Schema). s.tables) c.in-Ok.ensures.schema) c.in-Ok.ensures.lists c.in-Ok.ensures.last c.in-Ok.ensures.ended

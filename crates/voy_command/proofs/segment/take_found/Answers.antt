@@ -19,7 +19,9 @@ returns-in_err-take_line-clause-err g c =
 
 pub returns-clause-more : goal.returns-clause-more
 returns-clause-more g c = λ fs is.
-    ap (outcome_from c.args.fold.now) (line_stays (found_line c.args.reader.now) (unread c.args.reader.now fs) (sym (c.in_ok-closes.ensures.closed fs is) ∙ c.if-branch.false))
-    ∙ ap (λ line. outcome_from c.args.fold.now (line ∷ without_closing (lines_of (unread c.args.reader.now fs)))) (sym (c.line.ensures ∙ c.in_ok-closes.ensures.line))
-    ∙ c.in_ok-take_line.ensures.ok (without_closing (lines_of (unread c.args.reader.now fs)))
-    ∙ ap (λ bytes. outcome_from c.take_line.new.self (without_closing (lines_of bytes))) (sym (c.in_ok-closes.ensures.unread fs is))
+    let reader = c.args.reader.now in
+    let rest = without_closing (lines_of (unread reader fs)) in
+    ap (outcome_from c.args.fold.now) (line_stays (found_line reader) (unread reader fs) (sym (c.in_ok-closes.ensures.closed fs is) ∙ c.if-branch.false))
+    ∙ ap (λ line. outcome_from c.args.fold.now (line ∷ rest)) (sym (c.line.ensures ∙ c.in_ok-closes.ensures.line))
+    ∙ c.in_ok-take_line.ensures.ok rest
+    ∙ ap (λ left. outcome_from c.take_line.new.self (without_closing (lines_of left))) (sym (c.in_ok-closes.ensures.unread fs is))
