@@ -116,7 +116,11 @@ fn push_found(
         Ok(Found::Line) => {
             let line = quoted_bytes(alloc, reader.line())?;
             to.push_str(line.as_str())?;
-            to.push_str(if reader.has_line_feed() { " LF, " } else { ", " })?;
+            to.push_str(if reader.has_line_feed() {
+                " LF, "
+            } else {
+                ", "
+            })?;
             return Ok(true);
         }
         Ok(Found::TooLong) => "too long",
