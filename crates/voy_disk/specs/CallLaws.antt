@@ -23,7 +23,8 @@ done_or_not R x y done not (inl same) = not (subst (λ z. Follows Same (IsImageO
 done_or_not R x y done not (inr r) = done r
 
 -- whatever a write, a cut or a sync answers, each image of before or after has the same other files
-pub one_file_follows : {T : Type 0} (R S : File → File → Type 0) (result : Result T DiskError) (name : List ℕ) (old new : Option Files)
+pub one_file_follows : {T : Type 0} (R S : File → File → Type 0) (result : Result T DiskError) (name : List ℕ)
+    (old new : Option Files)
     → IfTold old ReadsImages → Leaves result (Changes R name) (Changes S name) old new
     → Follows (SameBut name) (ImagesOf old) (ImagesOf new)
 one_file_follows R S (Ok value) name old new reads change = follows_told reads change (λ x y reads_x r. others_stay x y name reads_x r)

@@ -55,7 +55,8 @@ pub others_still : (name : List ℕ) (files : Option Files) → Change (KeepsOth
 others_still name files = others_same name files files refl
 
 -- other files stay, whatever a call of this one answers
-pub others_after : {T : Type 0} (R S : File → File → Type 0) (result : Result T DiskError) (name : List ℕ) (old new : Option Files)
+pub others_after : {T : Type 0} (R S : File → File → Type 0) (result : Result T DiskError) (name : List ℕ)
+    (old new : Option Files)
     → Leaves result (Changes R name) (Changes S name) old new → Change (KeepsOtherFiles name) old new
 others_after R S (Ok value) name old new change = change_weaker change (λ x y r. r.others)
 others_after R S (Err Failed) name old new change = change_weaker change (λ x y r. r.others)

@@ -67,7 +67,8 @@ follows_change untold law = record { from = λ j is. absurd is }
 follows_change (told {old = x} {new = y} r) law = law x y r
 
 -- the same with a fact that is told of the files before
-pub follows_told : {P : Files → Type 0} {R : Files → Files → Type 0} {step : Image → Image → Type 0} {old new : Option Files}
+pub follows_told : {P : Files → Type 0} {R : Files → Files → Type 0} {step : Image → Image → Type 0}
+    {old new : Option Files}
     → IfTold old P → Change R old new → ((x y : Files) → P x → R x y → Follows step (IsImageOf x) (IsImageOf y))
     → Follows step (ImagesOf old) (ImagesOf new)
 follows_told p untold law = record { from = λ j is. absurd is }

@@ -54,7 +54,8 @@ module _ {R K : Type 0} (step : R → K → R) (may : R → K → Type 0) where
   pub goes_nothing : {I : Type 0} (reads : I → R) (images : I → Type 0) → Goes reads step may images images
   goes_nothing reads images = follows_weaker (follows_nothing images) (λ i j same. subst (λ k. Reaches step may (reads i) (reads k)) (sym same) (reaches_nothing (reads i)))
 
-  module _ (relates : R → R → Type 0) (stays : (r : R) → relates r r) (on : (r s t : R) → relates r s → relates s t → relates r t)
+  module _ (relates : R → R → Type 0) (stays : (r : R) → relates r r)
+      (on : (r s t : R) → relates r s → relates s t → relates r t)
       (lengthens : (r : R) (k : K) → may r k → relates r (step r k)) where
     lawful_relates : (ks : List K) (r : R) → Lawful step may r ks → relates r (after_all step r ks)
     lawful_relates [] r lawful = stays r
@@ -70,8 +71,10 @@ module _ {R K : Type 0} (step : R → K → R) (may : R → K → Type 0) where
     goes_relates reads old new goes = follows_weaker goes (λ i j reach. reaches_relates (reads i) (reads j) reach)
 
 -- a part of a whole whose other parts stay, with the steps of the part as steps of the whole
-module _ {R K Q L : Type 0} (step : R → K → R) (may : R → K → Type 0) (whole_step : Q → L → Q) (whole_may : Q → L → Type 0) (wrap : R → Q) (embed : K → L)
-    (same : (r : R) (k : K) → wrap (step r k) ≡ whole_step (wrap r) (embed k)) (leave : (r : R) (k : K) → may r k → whole_may (wrap r) (embed k)) where
+module _ {R K Q L : Type 0} (step : R → K → R) (may : R → K → Type 0) (whole_step : Q → L → Q)
+    (whole_may : Q → L → Type 0) (wrap : R → Q) (embed : K → L)
+    (same : (r : R) (k : K) → wrap (step r k) ≡ whole_step (wrap r) (embed k))
+    (leave : (r : R) (k : K) → may r k → whole_may (wrap r) (embed k)) where
   lift_after : (ks : List K) (r : R) → wrap (after_all step r ks) ≡ after_all whole_step (wrap r) (map embed ks)
   lift_after [] r = refl
   lift_after (k ∷ ks) r = lift_after ks (step r k) ∙ ap (λ q. after_all whole_step q (map embed ks)) (same r k)

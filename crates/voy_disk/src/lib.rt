@@ -9,8 +9,9 @@
 //! is said of what it reads.
 //!
 //! Each writing call says by `Leaves` what it does to the files at Ok, and what it leaves where the disk
-//! failed; after `NoMemory` nothing changed. The laws in `specs/ImageLaws.antt` lead from there to the
-//! images, in the words of `specs/Steps.antt`. By the clause `cause` a call answers `Failed` only where the
+//! failed; after `NoMemory` nothing changed. The laws in `specs/CallLaws.antt` lead from there to the
+//! images, in the words of `specs/Steps.antt`; those in `FrameLaws.antt` say what stays beside the files that are
+//! named, and those in `FrontCallLaws.antt` what stays in front of a write. By the clause `cause` a call answers `Failed` only where the
 //! count of faults of its disk or sink rose.
 //!
 //! - `MemDisk` fails by a `FaultPlan`, `SureDisk` never, and `HostDisk` is a real folder.

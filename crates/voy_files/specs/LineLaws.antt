@@ -14,7 +14,8 @@ is_false true h = cc
 is_false false h = refl
 
 -- what stands before a line feed is the first line
-pub lines_of-line : (line rest : List ℕ) → is_one_line line ≡ true → lines_of (line ++ (10 ∷ rest)) ≡ line ∷ lines_of rest
+pub lines_of-line : (line rest : List ℕ) → is_one_line line ≡ true
+    → lines_of (line ++ (10 ∷ rest)) ≡ line ∷ lines_of rest
 lines_of-line [] rest one = refl
 lines_of-line (b ∷ line) rest one =
     let parts : (not (b == 10) ≡ true) × (is_one_line line ≡ true) = both_hold _ _ one in
@@ -35,7 +36,8 @@ pub record BeginsLine (line rest : List ℕ) : Type 0 where
   pub lines : List (List ℕ)
   pub is : lines_of (line ++ rest) ≡ (line ++ more) ∷ lines
 
-onto_some : (b : ℕ) (rest : List (List ℕ)) → (line : List ℕ) × (lines : List (List ℕ)) × (onto_first b rest ≡ (b ∷ line) ∷ lines)
+onto_some : (b : ℕ) (rest : List (List ℕ))
+    → (line : List ℕ) × (lines : List (List ℕ)) × (onto_first b rest ≡ (b ∷ line) ∷ lines)
 onto_some b [] = ([], [], refl)
 onto_some b (line ∷ lines) = (line, lines, refl)
 

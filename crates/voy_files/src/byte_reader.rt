@@ -102,6 +102,7 @@ impl ByteReader {
     pub fn take_byte<D: Disk>(&mut self, disk: &mut D, name: &Name) -> Result<Option<u8>, DiskError>
         ensures taken { IfOk result (λ taken. OfBytes (D.files disk.old) name.now (λ bytes.
             MatchOption taken (unread self.old bytes ≡ []) (λ byte. unread self.old bytes ≡ byte ∷ unread self.new bytes))) }
+        ensures stands { IfOk result (λ taken. IfSome taken (λ _. (offset : ℕ) → StandsAt self.old offset → StandsAt self.new (offset + 1))) }
         ensures fewer { IfOk result (λ taken. IfSome taken (λ _. bytes_left self.new + 1 ≤ bytes_left self.old)) }
         ensures same { D.files disk.new ≡ D.files disk.old }
         ensures cause { HasCause DiskError.Failed (D.faults disk.old) (D.faults disk.new) result }
@@ -123,6 +124,7 @@ impl ByteReader {
     ) -> Result<Option<u32>, DiskError>
         ensures taken { IfOk result (λ taken. OfBytes (D.files disk.old) name.now (λ bytes.
             MatchOption taken (length (unread self.old bytes) < 4) (λ number. unread self.old bytes ≡ to_be_bytes w32 number ++ unread self.new bytes))) }
+        ensures stands { IfOk result (λ taken. IfSome taken (λ _. (offset : ℕ) → StandsAt self.old offset → StandsAt self.new (offset + 4))) }
         ensures fewer { IfOk result (λ taken. IfSome taken (λ _. bytes_left self.new + 4 ≤ bytes_left self.old)) }
         ensures same { D.files disk.new ≡ D.files disk.old }
         ensures cause { HasCause DiskError.Failed (D.faults disk.old) (D.faults disk.new) result }
@@ -154,6 +156,7 @@ impl ByteReader {
         ensures taken { IfOk result (λ taken. OfBytes (D.files disk.old) name.now (λ bytes.
             MatchOption taken (length (unread self.old bytes) < size) (λ part. unread self.old bytes ≡ part.items ++ unread self.new bytes))) }
         ensures size { IfOk result (λ taken. IfSome taken (λ part. vec_len part ≡ size)) }
+        ensures stands { IfOk result (λ taken. IfSome taken (λ _. (offset : ℕ) → StandsAt self.old offset → StandsAt self.new (offset + size))) }
         ensures fewer { IfOk result (λ taken. IfSome taken (λ _. bytes_left self.new + size ≤ bytes_left self.old)) }
         ensures same { D.files disk.new ≡ D.files disk.old }
         ensures cause { HasCause DiskError.Failed (D.faults disk.old) (D.faults disk.new) result }

@@ -54,7 +54,8 @@ stands_known fs name place payloads at =
     ap (λ front. payloads_of (front ++ 0 ∷ [])) (stands_front fs name place payloads at) ∙ closed_entries payloads at.holds.fit
 
 -- a journal whose file another call left still stands, with the same payloads
-pub stands_beside : (name : List ℕ) (place : ℕ) (payloads : List (List ℕ)) (among : List ℕ → Type 0) {old new : Option Files}
+pub stands_beside : (name : List ℕ) (place : ℕ) (payloads : List (List ℕ)) (among : List ℕ → Type 0)
+    {old new : Option Files}
     → (among name → ⊥)
     → Change (KeepsBeside among) old new → IfTold old (StandsAt name place payloads)
     → IfTold new (StandsAt name place payloads)

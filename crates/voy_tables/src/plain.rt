@@ -64,7 +64,7 @@ impl Plain {
 
     /// Whether the change fits the tables, and else the first cause why it does not: an insert's key is
     /// there already; the key of an update or delete is not there; the row there is another one; another
-    /// row has the new row's tuple of the least such unique key, with no NULL in it. It takes no memory.
+    /// row has the new row's counting tuple of the least such unique key. It takes no memory.
     pub fn fits(&self, change: &Change) -> Result<(), Misfit>
         ensures ok { OnOk result (misfit_of self.now.schema.tables (row_change self.now.schema.tables change.now) self.now.lists ≡ None) }
         ensures err { IfErr result (λ misfit. misfit_of self.now.schema.tables (row_change self.now.schema.tables change.now) self.now.lists ≡ Some misfit) }

@@ -2,7 +2,7 @@
 //! `make` makes the folder, `put TEXT NAME` writes a file, `folder NAME` and `link NAME` make a folder and a link
 //! to the file `absent`, `remove NAME` removes a file, `bytes NAME` shows a file, and `kind` says what the folder is.
 //! Of a host that counts and fails, `syncs` and `opens` are how often it was asked for a sync and to open a file, from
-//! `fail` on its calls fail, and from `mend` on they do not.
+//! `fail` on its reads, writes, cuts and syncs fail, and from `mend` on they do not.
 
 use crate::disk_calls::{answer, call_of, push_line, quoted};
 use crate::flaky_host::{FlakyHost, Notes};

@@ -1,4 +1,4 @@
-use Rattle.std.proofs.Common.{arith, ◌∙◌, ◌++◌, ap, sym, length, drop, take, length-append, refl}
+use Rattle.std.proofs.Common.{arith, ◌∙◌, ◌++◌, ◌+◌, ap, sym, length, drop, take, length-append, refl, vec_len}
 use Rattle.voy_disk.specs.Files.{bytes_now}
 use Rattle.voy_files.specs.Bytes.{held}
 use Rattle.voy_files.proofs.Pieces.{moved_before}
@@ -18,6 +18,18 @@ loop-self-preserved g c =
           ∙ moved_before part longer (held filled) (held taken) (drop filled.at (take filled.end bytes)) (drop taken.at (take taken.end bytes))
           clauses.moves (rw (clauses.at, clauses.end) refl);
       size = omega (arith, clauses.count);
+      stands = λ offset start.
+          let here = c.in_ok-fill.ensures.stands (offset + vec_len c.loop-self.part) (c.loop-self.invariant.stands offset start) in
+          omega (
+            arith,
+            here,
+            clauses.at,
+            ap length clauses.moves,
+            length-append longer (held taken),
+            length-append part (held filled),
+            c.loop-self.part.ok.0,
+            c.take_held.new.to.ok.0,
+          );
       fewer = omega (
         arith,
         clauses.at,
