@@ -46,3 +46,8 @@ loop-self-preserved g c =
       later = omega (arith, c.in_ok-fill.ensures.cause.later);
       lender = c.in_ok-fill.ensures.lender ∙ c.loop-self.invariant.lender;
     }
+
+pub returns-clause-stands : goal.returns-clause-stands
+returns-clause-stands g c = λ offset stands.
+    let here = c.loop-self.invariant.stands offset stands in
+    omega (arith, here, c.loop-self.invariant.size, c.loop-self-test.false)
