@@ -4,9 +4,11 @@
 //! `write NAME PLACE TEXT`, `cut NAME LENGTH`, `sync NAME`, `rename NAME NAME`, and `faults`. What a writing
 //! call asks for is tried first where the disk tells its files; a test fails where it does not stand.
 
-ghost use Rattle.std.specs.Prelude.{◌≡◌, ◌≤◌, None, length, IsTrue};
+ghost use Rattle.std.specs.Prelude.{◌≡◌, ◌≤◌, None, length, IsTrue, MatchOption};
+ghost use Rattle.std.specs.Option.{option_map};
 ghost use Rattle.voy_disk.specs.Calls.{IsThereWith};
 ghost use Rattle.voy_disk.specs.Files.{IfTold};
+ghost use Rattle.voy_disk.specs.MemFiles.{shown};
 
 use crate::made::name_of;
 use std::alloc::{AllocError, Global};
@@ -16,36 +18,18 @@ use voy_disk::{Disk, DiskError, HostDisk, MemDisk, Name, SureDisk};
 
 /// A disk of which what its calls ask for can be tried first.
 pub(crate) trait Tried: Disk {
-    /// Whether the file is there and has so many bytes, as far as the disk tells.
-    fn reaches(&self, name: &Name, count: u64) -> bool
-        ensures { IsTrue result → IfTold (Self.files self.now) (λ fs. IsThereWith (λ file. count ≤ length file.now) (fs name.now)) };
-
-    /// Whether the file is there, as far as the disk tells.
-    fn has(&self, name: &Name) -> bool
-        ensures { IsTrue result → IfTold (Self.files self.now) (λ fs. IsThereWith (λ _. Unit {0}) (fs name.now)) };
-
-    /// Whether the name is free, as far as the disk tells.
-    fn is_free(&self, name: &Name) -> bool
-        ensures { IsTrue result → IfTold (Self.files self.now) (λ fs. fs name.now ≡ None) };
+    /// What the file reads now, if it is there; `None` where the disk does not tell.
+    fn told(&self, name: &Name) -> Option<Option<&[u8]>>
+        ensures { MatchOption result (Self.files self.now ≡ None) (λ found.
+            IfTold (Self.files self.now) (λ fs. shown found ≡ option_map (λ file. file.now) (fs name.now))) };
 
     /// How many faults there were, where the disk tells its callers.
     fn fault_count(&self) -> Option<u64>;
 }
 
 impl Tried for MemDisk {
-    fn reaches(&self, name: &Name, count: u64) -> bool {
-        match self.file(name) {
-            Some(now) => count <= now.len() as u64,
-            None => false,
-        }
-    }
-
-    fn has(&self, name: &Name) -> bool {
-        self.file(name).is_some()
-    }
-
-    fn is_free(&self, name: &Name) -> bool {
-        self.file(name).is_none()
+    fn told(&self, name: &Name) -> Option<Option<&[u8]>> {
+        Some(self.file(name))
     }
 
     fn fault_count(&self) -> Option<u64> {
@@ -54,19 +38,8 @@ impl Tried for MemDisk {
 }
 
 impl Tried for SureDisk {
-    fn reaches(&self, name: &Name, count: u64) -> bool {
-        match self.file(name) {
-            Some(now) => count <= now.len() as u64,
-            None => false,
-        }
-    }
-
-    fn has(&self, name: &Name) -> bool {
-        self.file(name).is_some()
-    }
-
-    fn is_free(&self, name: &Name) -> bool {
-        self.file(name).is_none()
+    fn told(&self, name: &Name) -> Option<Option<&[u8]>> {
+        Some(self.file(name))
     }
 
     fn fault_count(&self) -> Option<u64> {
@@ -75,20 +48,43 @@ impl Tried for SureDisk {
 }
 
 impl<R: Files + Drop> Tried for HostDisk<R> {
-    fn reaches(&self, _name: &Name, _count: u64) -> bool {
-        true
-    }
-
-    fn has(&self, _name: &Name) -> bool {
-        true
-    }
-
-    fn is_free(&self, _name: &Name) -> bool {
-        true
+    fn told(&self, _name: &Name) -> Option<Option<&[u8]>> {
+        None
     }
 
     fn fault_count(&self) -> Option<u64> {
         Some(self.faults())
+    }
+}
+
+/// Whether the file is there and has so many bytes, as far as the disk tells.
+fn reaches<D: Tried>(disk: &D, name: &Name, count: u64) -> bool
+    ensures { IsTrue result → IfTold (D.files disk.now) (λ fs. IsThereWith (λ file. count ≤ length file.now) (fs name.now)) }
+{
+    match disk.told(name) {
+        None => true,
+        Some(None) => false,
+        Some(Some(now)) => count <= now.len() as u64,
+    }
+}
+
+/// Whether the file is there, as far as the disk tells.
+fn has<D: Tried>(disk: &D, name: &Name) -> bool
+    ensures { IsTrue result → IfTold (D.files disk.now) (λ fs. IsThereWith (λ _. Unit {0}) (fs name.now)) }
+{
+    match disk.told(name) {
+        None => true,
+        Some(found) => found.is_some(),
+    }
+}
+
+/// Whether the name is free, as far as the disk tells.
+fn is_free<D: Tried>(disk: &D, name: &Name) -> bool
+    ensures { IsTrue result → IfTold (D.files disk.now) (λ fs. fs name.now ≡ None) }
+{
+    match disk.told(name) {
+        None => true,
+        Some(found) => found.is_none(),
     }
 }
 
@@ -232,28 +228,28 @@ fn write<D: Tried>(
     at: u32,
     bytes: &[u8],
 ) -> Result<Result<(), DiskError>, Fail> {
-    if !disk.reaches(name, u64::from(at)) {
+    if !reaches(disk, name, u64::from(at)) {
         return Err("a write behind the end".into());
     }
     Ok(disk.write_at(name, u64::from(at), bytes))
 }
 
 fn cut<D: Tried>(disk: &mut D, name: &Name, to: u32) -> Result<Result<(), DiskError>, Fail> {
-    if !disk.reaches(name, u64::from(to)) {
+    if !reaches(disk, name, u64::from(to)) {
         return Err("a cut behind the end".into());
     }
     Ok(disk.cut(name, u64::from(to)))
 }
 
 fn sync<D: Tried>(disk: &mut D, name: &Name) -> Result<Result<(), DiskError>, Fail> {
-    if !disk.has(name) {
+    if !has(disk, name) {
         return Err("a sync of no file".into());
     }
     Ok(disk.sync(name))
 }
 
 fn rename<D: Tried>(disk: &mut D, from: &Name, to: &Name) -> Result<Result<(), DiskError>, Fail> {
-    if !disk.has(from) || !disk.is_free(to) {
+    if !has(disk, from) || !is_free(disk, to) {
         return Err("a renaming of no file, or to a name that is taken".into());
     }
     Ok(disk.rename(from, to))

@@ -5,7 +5,8 @@ use voy_schema::{Copies, Kind, Schema, Table};
 const TWO: &str =
     r#" { "tables" : 1, "tables":[{"unique_keys":[],"primary_key":["b","a"],"columns":[{"type":"boolean","name":"a"},{"name":"b","type":"bytea"}],"table_name":7,"table_name":"t","schema_name":"a"},{"schema_name":"b","table_name":"t","columns":[{"name":"_","type":"text"}],"primary_key":["_"],"unique_keys":[{"columns":["_"]},{"columns":["_"],"nulls_not_distinct":true}]}]} "#;
 
-const TWO_IN_WORDS: &str = "a.t a boolean, b bytea, key 1, 0,;b.t _ text, key 0, unique 0, unique with NULLs equal 0,;";
+const TWO_IN_WORDS: &str =
+    "a.t a boolean, b bytea, key 1, 0,;b.t _ text, key 0, unique 0, unique with NULLs equal 0,;";
 
 #[test]
 fn a_copied_schema_is_the_same(rt: HostRuntime) -> Result<(), Fail> {
