@@ -5,8 +5,8 @@ use crate::values::{push_answer, row_of, rows_of, text_at, value_of};
 use std::alloc::Global;
 use std::cmp::Ordering;
 use voy_schema::{
-    Copies, Kind, Row, Schema, SchemaError, Table, Text, Tuple, Value, check_value,
-    is_lawful_row, is_lawful_value,
+    Copies, Kind, Row, Schema, SchemaError, Table, Text, Tuple, Value, check_value, is_lawful_row,
+    is_lawful_value,
 };
 
 /// The schema of the base that the case's first word names.

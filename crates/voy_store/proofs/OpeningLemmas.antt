@@ -21,7 +21,7 @@ use Rattle.voy_store.specs.Opening.{TellsStored}
 use Rattle.voy_store.specs.Stored.{bad_gate, contents_with, if_taken, store_name}
 use Rattle.voy_store.specs.Taking.{AreTaken}
 use Rattle.voy_txn.specs.Commits.{is_next}
-use Rattle.voy_txn.specs.Contents.{Contents, contents_after, contents_of}
+use Rattle.voy_txn.specs.Contents.{Contents, contents_after}
 use Rattle.voy_txn.specs.HistoryLaws.{contents_grow}
 use Rattle.voy_txn.specs.Items.{violation_of}
 use Rattle.voy_txn.specs.Reading.{txn_reading}

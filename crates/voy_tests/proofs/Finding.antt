@@ -1,5 +1,5 @@
 -- What is known of a file, from the bytes that a disk shows of it.
-use Rattle.std.proofs.Common.{◌≡◌, ◌≤◌, ℕ, List, Option, Some, None, is_some, length, true, false, IsTrue, Bor, refl, subst}
+use Rattle.std.proofs.Common.{◌≡◌, ◌≤◌, ℕ, List, Option, Some, None, is_some, length, false, IsTrue, Bor, refl, subst}
 use Rattle.std.specs.Option.{option_map}
 use Rattle.voy_disk.specs.Calls.{IsThereWith}
 use Rattle.voy_disk.specs.File.{File}
