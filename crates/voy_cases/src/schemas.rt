@@ -219,31 +219,22 @@ fn kept(alloc: Global, text: &Text) -> Result<String, Trouble> {
     quoted(alloc, text.as_str())
 }
 
-/// How each of these rows compares with each of them, as rows or as tuples.
+/// How the tuple of each of these rows compares with that of each of them.
 pub fn order(alloc: Global, case: &Case) -> Result<String, Trouble> {
-    let are_tuples = match case.words {
-        "rows" => false,
-        "tuples" => true,
-        _ => return Err(Trouble::Case("neither rows nor tuples")),
-    };
     let rows = rows_of(alloc, case.rows)?;
     let mut shown = String::new(alloc);
     for (at, row) in rows.as_slice().iter().enumerate() {
         if at > 0 {
             shown.push(' ')?;
         }
-        push_order(are_tuples, row, rows.as_slice(), &mut shown)?;
+        push_order(row, rows.as_slice(), &mut shown)?;
     }
     Ok(shown)
 }
 
-fn push_order(are_tuples: bool, row: &Row, others: &[Row], to: &mut String) -> Result<(), Trouble> {
+fn push_order(row: &Row, others: &[Row], to: &mut String) -> Result<(), Trouble> {
     for other in others {
-        let order = if are_tuples {
-            Tuple::new(row.copy()?).cmp(&Tuple::new(other.copy()?))
-        } else {
-            row.cmp(other)
-        };
+        let order = Tuple::new(row.copy()?).cmp(&Tuple::new(other.copy()?));
         to.push(sign_of_order(order))?;
     }
     Ok(())
