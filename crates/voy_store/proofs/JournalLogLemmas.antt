@@ -1,13 +1,10 @@
 -- One payload more in a journal is one transaction more in its history, also in each image.
 use Rattle.std.proofs.Common.{◌≡◌, ℕ, zero, suc, List, [], ◌∷◌, ◌++◌, Option, Some, None, take, refl, sym, ap, ◌∙◌}
 use Rattle.std.specs.Option.{option_and_then, option_map}
-use Rattle.voy_disk.specs.Files.{Files}
-use Rattle.voy_disk.specs.Images.{Image, ImagesOf}
+use Rattle.voy_disk.specs.Images.{Image}
 use Rattle.voy_disk.specs.Steps.{Follows, LeavesPrefix, StaysTold}
-use Rattle.voy_journal.specs.Journal.{AddsPayloads, StandsOn, journal_name, known_payloads, payloads_in}
-use Rattle.voy_journal.specs.declared.state.Journal.{Journal}
+use Rattle.voy_journal.specs.Journal.{AddsPayloads, payloads_in}
 use Rattle.voy_schema.specs.declared.table.Table.{Table}
-use Rattle.voy_store.specs.JournalLogLaws.{stands_as_known}
 use Rattle.voy_store.specs.JournalLogs.{HasHistory, history_told}
 use Rattle.voy_store.specs.Stored.{history_in, store_name}
 use Rattle.voy_txn.specs.Commits.{AddsTxns, with_txn}
@@ -59,11 +56,6 @@ history_grows schema payload txn old new reads adds =
     by None = refl
     by (Some history) = refl
 
--- what was told before these transactions
-more_of : (txns : List Txn) (told : Option History) (after : History) → more txns told ≡ Some after → (before : History) × (told ≡ Some before) × (after ≡ before ++ txns)
-more_of txns None after is = absurd cc
-more_of txns (Some before) after is = (before, refl, cc)
-
 -- an image with these payloads more has these transactions more
 image_more : (schema : List Table) (added : List (List ℕ)) (txns : List Txn) (i j : Image) → history_in schema added ≡ Some txns → AddsPayloads store_name added i j
     → history_told schema (payloads_in store_name j) ≡ more txns (history_told schema (payloads_in store_name i))
@@ -73,44 +65,33 @@ image_more schema added txns i j are step = ap (history_told schema) step.payloa
 pub images_add : (schema : List Table) (payload : List ℕ) (txn : Txn) (old new : Image → Type 0) → txn_reading schema payload ≡ Some txn
     → Follows (AddsPayloads store_name (payload ∷ [])) old new → Follows (AddsTxns (txn ∷ [])) (HasHistory schema old) (HasHistory schema new)
 images_add schema payload txn old new reads follows = record {
-  from = λ history has.
+  from = λ read has.
       let image = follows.from has.image has.is in
-      let before = more_of (txn ∷ []) (history_told schema (payloads_in store_name image.before)) history
-      (sym (image_more schema (payload ∷ []) (txn ∷ []) image.before has.image (history_of_one schema payload txn reads) image.by) ∙ has.reads) in
-      record { before = before.0; was = record { image = image.before; is = image.was; reads = before.1 }; by = before.2 };
+      record {
+        before = history_told schema (payloads_in store_name image.before);
+        was = record { image = image.before; is = image.was; reads = refl };
+        by = sym has.reads ∙ image_more schema (payload ∷ []) (txn ∷ []) image.before has.image (history_of_one schema payload txn reads) image.by;
+      };
 }
 
 -- whatever the answer, each image has it more, or nothing
 pub images_add_some : (schema : List Table) (payload : List ℕ) (txn : Txn) (old new : Image → Type 0) → txn_reading schema payload ≡ Some txn
     → LeavesPrefix (AddsPayloads store_name) (payload ∷ []) old new → LeavesPrefix AddsTxns (txn ∷ []) (HasHistory schema old) (HasHistory schema new)
 images_add_some schema payload txn old new reads follows = record {
-  from = λ history has.
+  from = λ read has.
       let image = follows.from has.image has.is in
       let n = image.by.0 in
-      let before = more_of (take n (txn ∷ [])) (history_told schema (payloads_in store_name image.before)) history
-      (sym (image_more schema (take n (payload ∷ [])) (take n (txn ∷ [])) image.before has.image (history_of_some schema payload txn n reads) image.by.1) ∙ has.reads) in
-      record { before = before.0; was = record { image = image.before; is = image.was; reads = before.1 }; by = (n, before.2) };
+      record {
+        before = history_told schema (payloads_in store_name image.before);
+        was = record { image = image.before; is = image.was; reads = refl };
+        by = (n, sym has.reads ∙ image_more schema (take n (payload ∷ [])) (take n (txn ∷ [])) image.before has.image (history_of_some schema payload txn n reads) image.by.1);
+      };
 }
 
--- where a history was in an image, one is in an image afterwards
-pub images_stay_told : (schema : List Table) (payload : List ℕ) (txn : Txn) (journal : Journal) (old new : Option Files) → journal_name journal ≡ store_name
-    → txn_reading schema payload ≡ Some txn → StandsOn journal old
-    → LeavesPrefix (AddsPayloads (journal_name journal)) (payload ∷ []) (ImagesOf old) (ImagesOf new) → StaysTold (ImagesOf old) (ImagesOf new)
-    → StaysTold (HasHistory schema (ImagesOf old)) (HasHistory schema (ImagesOf new))
-images_stay_told schema payload txn journal old new named reads stands follows stays = record {
-  has = λ history has.
+-- where an image read, or read as none, one does afterwards
+pub images_stay_told : (schema : List Table) (old new : Image → Type 0) → StaysTold old new → StaysTold (HasHistory schema old) (HasHistory schema new)
+images_stay_told schema old new stays = record {
+  has = λ read has.
       let there = stays.has has.image has.is in
-      let image = (rw named at follows).from there.0 there.1 in
-      let added = take image.by.0 (txn ∷ []) in
-      let same : payloads_in store_name image.before ≡ payloads_in store_name has.image = known image.before image.was ∙ sym (known has.image has.is) in (
-        history ++ added,
-        record {
-          image = there.0;
-          is = there.1;
-          reads = image_more schema (take image.by.0 (payload ∷ [])) added image.before there.0 (history_of_some schema payload txn image.by.0 reads) image.by.1
-              ∙ ap (λ payloads. more added (history_told schema payloads)) same ∙ ap (more added) has.reads;
-        },
-      );
-} where
-  known : (image : Image) → ImagesOf old image → payloads_in store_name image ≡ known_payloads journal old
-  known image is = ap (λ name. payloads_in name image) (sym named) ∙ stands_as_known journal.name journal.gate old image stands is
+      (history_told schema (payloads_in store_name there.0), record { image = there.0; is = there.1; reads = refl });
+}

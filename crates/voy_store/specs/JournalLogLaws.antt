@@ -26,12 +26,12 @@ stands_as_known name place (Some fs) image stands is =
 pub one_journal_history : (schema : List Table) (name : List ℕ) (place : ℕ) (files : Option Files) → name ≡ store_name → IfTold files ReadsImages → IfTold files (Stands name place)
     → IsOneHistory (history_told schema (payloads_before name place files)) (HasHistory schema (ImagesOf files))
 one_journal_history schema name place files named reads stands = record {
-  only = λ history has.
+  only = λ read has.
       ap (history_told schema) (sym (stands_as_known name place files has.image stands has.is) ∙ ap (λ n. payloads_in n has.image) named) ∙ has.reads;
   there = λ history is. at_now files reads stands history is;
 } where
   at_now : (files : Option Files) → IfTold files ReadsImages → IfTold files (Stands name place)
-      → (history : History) → history_told schema (payloads_before name place files) ≡ Some history → HasHistory schema (ImagesOf files) history
+      → (history : History) → history_told schema (payloads_before name place files) ≡ Some history → HasHistory schema (ImagesOf files) (Some history)
   at_now None reads stands history is = absurd cc
   at_now (Some fs) reads stands history is = record {
     image = now_image fs;
@@ -43,10 +43,10 @@ one_journal_history schema name place files named reads stands = record {
 -- where each image keeps the payloads, it has a history that was there before
 pub keeps_histories : (schema : List Table) (old new : Image → Type 0) → Follows (KeepsPayloads store_name) old new → Follows Same (HasHistory schema old) (HasHistory schema new)
 keeps_histories schema old new follows = record {
-  from = λ history has.
+  from = λ read has.
       let image = follows.from has.image has.is in
       record {
-        before = history;
+        before = read;
         was = record { image = image.before; is = image.was; reads = ap (history_told schema) (sym image.by.payloads) ∙ has.reads };
         by = refl;
       };

@@ -1,5 +1,5 @@
 -- What a journal tells of a history, and what a stop may leave of it.
-use Rattle.std.specs.Prelude.{◌≡◌, ℕ, List, Option, Some}
+use Rattle.std.specs.Prelude.{◌≡◌, ℕ, List, Option}
 use Rattle.std.specs.Option.{option_and_then}
 use Rattle.voy_disk.specs.Files.{Files}
 use Rattle.voy_disk.specs.Images.{Image}
@@ -17,8 +17,8 @@ history_told schema payloads = option_and_then (history_in schema) payloads
 abbrev pub history_on : List Table → Journal → Option Files → Option History
 history_on schema journal files = history_told schema (known_payloads journal files)
 
--- one of these images of a disk has this history in its `store.journal`
-pub record HasHistory (schema : List Table) (images : Image → Type 0) (history : History) : Type 0 where
+-- one of these images of a disk reads so in its `store.journal`: it has this history, or it has none
+pub record HasHistory (schema : List Table) (images : Image → Type 0) (read : Option History) : Type 0 where
   pub image : Image
   pub is : images image
-  pub reads : history_told schema (payloads_in store_name image) ≡ Some history
+  pub reads : history_told schema (payloads_in store_name image) ≡ read

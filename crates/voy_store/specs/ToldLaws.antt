@@ -33,5 +33,5 @@ told_more old mid new before after txn was is at_mid at_new more taken are =
     rw (at_new, taken, subst (λ schema. after schema ≡ with_txn (before schema) txn) at_mid more) (told_grow old (before old) txn was are)
 
 -- a history that is the only image is the one that is told
-pub one_history : (history : History) → IsOneHistory (Some history) (λ h. h ≡ history)
-one_history history = record { only = λ h is. ap Some (sym is); there = λ h is. cc }
+pub one_history : (history : History) → IsOneHistory (Some history) (λ read. read ≡ Some history)
+one_history history = record { only = λ read is. sym is; there = λ h is. sym is }

@@ -27,7 +27,7 @@ impl MemLog {
 impl Log for MemLog {
     ghost history = { λ schema log. Some log.txns };
 
-    ghost images = { λ schema log history. history ≡ log.txns };
+    ghost images = { λ schema log read. read ≡ Some log.txns };
 
     ghost faults = { λ log. 0 };
 

@@ -1,5 +1,5 @@
 -- What a store asks of a transaction, and what it answers and keeps.
-use Rattle.std.specs.Prelude.{◌≡◌, ◌⊎◌, ℕ, ◌++◌, Bool, true, false, List, [], ◌∷◌, Option, Some, None, not}
+use Rattle.std.specs.Prelude.{◌≡◌, ◌⊎◌, ℕ, ◌++◌, Bool, true, false, List, [], ◌∷◌, Option, Some, None, not, option_map}
 use Rattle.voy_schema.specs.declared.table.Table.{Table}
 use Rattle.voy_schema.specs.declared.value.Value.{Value}
 use Rattle.voy_tables.specs.Lists.{look}
@@ -33,9 +33,9 @@ if_none (Some violation) txn = []
 abbrev pub if_it_fits : List Table → Contents → Txn → List Txn
 if_it_fits schema contents txn = if_none (violation_of schema contents.tables txn) txn
 
--- one history has just these transactions more than another
-abbrev pub AddsTxns : List Txn → History → History → Type 0
-AddsTxns txns before after = after ≡ before ++ txns
+-- what reads has just these transactions more than what read before; where nothing read, nothing does
+abbrev pub AddsTxns : List Txn → Option History → Option History → Type 0
+AddsTxns txns before after = after ≡ option_map (λ (history : History). history ++ txns) before
 
 -- a told history with one transaction more
 abbrev pub with_txn : Option History → Txn → Option History
@@ -54,10 +54,10 @@ LeavesStore live as_it_was Fault = live ≡ false
 LeavesStore live as_it_was (Violation item why) = (live ≡ true) × as_it_was
 LeavesStore live as_it_was NoMemory = (live ≡ false) ⊎ ((live ≡ true) × as_it_was)
 
--- the one history that a stop may leave is the one that is told
-pub record IsOneHistory (history : Option History) (images : History → Type 0) : Type 0 where
-  pub only : (h : History) → images h → history ≡ Some h
-  pub there : (h : History) → history ≡ Some h → images h
+-- the one history that a stop may leave is the one that is told, and it reads
+pub record IsOneHistory (history : Option History) (images : Option History → Type 0) : Type 0 where
+  pub only : (read : Option History) → images read → history ≡ read
+  pub there : (h : History) → history ≡ Some h → images (Some h)
 
 -- for each table lawful rows by strictly ascending key, no two with the same counting tuple of a unique key
 pub record AreCleanTables (schema : List Table) (lists : List (List (List Value))) : Type 0 where

@@ -1,5 +1,5 @@
 -- Laws of histories and of commits, for crates above.
-use Rattle.std.specs.Prelude.{◌≡◌, ℕ, zero, suc, ◌++◌, ◌||◌, Bool, true, false, List, [], ◌∷◌, Option, Some, None, refl, take}
+use Rattle.std.specs.Prelude.{◌≡◌, ℕ, zero, suc, ◌++◌, ◌||◌, Bool, true, false, List, [], ◌∷◌, Option, Some, None, option_map, refl, take}
 use Rattle.std.specs.List.{filter_map, fold, list_any}
 use Rattle.std.proofs.Common.{append-nil, ap, subst, ◌∙◌}
 use Rattle.std.proofs.lemmas.List.Elements.{filter_map-append}
@@ -61,22 +61,26 @@ contents_grow schema history txn = λ i. record {
   changes = fold_more changes_after (λ _. 0) history txn i;
 }
 
-nothing_added : (n : ℕ) (before after : History) → AddsTxns (take n []) before after → AddsTxns [] before after
+nothing_added : (n : ℕ) (before after : Option History) → AddsTxns (take n []) before after → AddsTxns [] before after
 nothing_added zero before after is = is
 nothing_added (suc n) before after is = is
 
 -- a commit leaves at most its transaction
-pub adds_at_most : (schema : List Table) (contents : Contents) (txn : Txn) (old new : History → Type 0)
+pub adds_at_most : (schema : List Table) (contents : Contents) (txn : Txn) (old new : Option History → Type 0)
     → LeavesPrefix AddsTxns (if_it_fits schema contents txn) old new → LeavesPrefix AddsTxns (txn ∷ []) old new
 adds_at_most schema contents txn old new leaves = follows_weaker leaves (by (violation_of schema contents.tables txn)) where
-  by : (found : Option (ℕ × Misfit)) (before after : History) → SomeFirst AddsTxns (if_none found txn) before after → SomeFirst AddsTxns (txn ∷ []) before after
+  by : (found : Option (ℕ × Misfit)) (before after : Option History) → SomeFirst AddsTxns (if_none found txn) before after → SomeFirst AddsTxns (txn ∷ []) before after
   by None before after some = some
   by (Some violation) before after some = (0, nothing_added some.0 before after some.1)
 
 -- a commit whose items do not fit leaves nothing
-pub adds_nothing : (schema : List Table) (contents : Contents) (txn : Txn) (violation : ℕ × Misfit) (old new : History → Type 0)
+pub adds_nothing : (schema : List Table) (contents : Contents) (txn : Txn) (violation : ℕ × Misfit) (old new : Option History → Type 0)
     → violation_of schema contents.tables txn ≡ Some violation
     → LeavesPrefix AddsTxns (if_it_fits schema contents txn) old new → Follows Same old new
 adds_nothing schema contents txn violation old new found leaves = follows_weaker leaves (λ before after some. by before after (subst (λ v. SomeFirst AddsTxns (if_none v txn) before after) found some)) where
-  by : (before after : History) → SomeFirst AddsTxns [] before after → after ≡ before
-  by before after some = nothing_added some.0 before after some.1 ∙ append-nil before
+  none_more : (read : Option History) → option_map (λ (history : History). history ++ []) read ≡ read
+  none_more None = refl
+  none_more (Some history) = ap Some (append-nil history)
+
+  by : (before after : Option History) → SomeFirst AddsTxns [] before after → after ≡ before
+  by before after some = nothing_added some.0 before after some.1 ∙ none_more before

@@ -15,7 +15,7 @@ returns-in-Ok-clause-prefix g c =
 
 pub returns-in-Ok-clause-told : goal.returns-in-Ok-clause-told
 returns-in-Ok-clause-told g c =
-    images_stay_told c.args.schema.now.tables c.as_slice.result.now c.args.txn.now c.args.self.now.journal _ _ c.args.self.now.named (rw c.as_slice.ensures c.in_ok-payload.ensures.reads) c.requires.stands c.append.ensures.prefix c.append.ensures.told
+    images_stay_told c.args.schema.now.tables _ _ c.append.ensures.told
 
 pub returns-in-Err-Fault-clause-prefix : goal.returns-in-Err-Fault-clause-prefix
 returns-in-Err-Fault-clause-prefix g c =
@@ -23,7 +23,7 @@ returns-in-Err-Fault-clause-prefix g c =
 
 pub returns-in-Err-Fault-clause-told : goal.returns-in-Err-Fault-clause-told
 returns-in-Err-Fault-clause-told g c =
-    images_stay_told c.args.schema.now.tables c.as_slice.result.now c.args.txn.now c.args.self.now.journal _ _ c.args.self.now.named (rw c.as_slice.ensures c.in_ok-payload.ensures.reads) c.requires.stands c.append.ensures.prefix c.append.ensures.told
+    images_stay_told c.args.schema.now.tables _ _ c.append.ensures.told
 
 pub returns-in-Err-NoMemory-clause-prefix : goal.returns-in-Err-NoMemory-clause-prefix
 returns-in-Err-NoMemory-clause-prefix g c =
@@ -31,4 +31,4 @@ returns-in-Err-NoMemory-clause-prefix g c =
 
 pub returns-in-Err-NoMemory-clause-told : goal.returns-in-Err-NoMemory-clause-told
 returns-in-Err-NoMemory-clause-told g c =
-    images_stay_told c.args.schema.now.tables c.as_slice.result.now c.args.txn.now c.args.self.now.journal _ _ c.args.self.now.named (rw c.as_slice.ensures c.in_ok-payload.ensures.reads) c.requires.stands c.append.ensures.prefix c.append.ensures.told
+    images_stay_told c.args.schema.now.tables _ _ c.append.ensures.told
