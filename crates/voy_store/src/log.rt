@@ -21,8 +21,8 @@ pub trait Log {
     /// Its transactions, where it tells them and they are such of this schema.
     ghost history: { List Table → Self → Option History };
 
-    /// What a stop now may leave, as it reads: a history, or none where it does not read. Where the history is not
-    /// told, there is none of them.
+    /// What a stop now may leave, as it reads: a history, or none where it does not read as one. Over a disk that
+    /// tells nothing there is none of them.
     ghost images: { List Table → Self → Option History → Type 0 };
 
     /// How many faults there were, in 64 bits; the count stays at its type's end.

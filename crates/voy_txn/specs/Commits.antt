@@ -54,7 +54,7 @@ LeavesStore live as_it_was Fault = live ≡ false
 LeavesStore live as_it_was (Violation item why) = (live ≡ true) × as_it_was
 LeavesStore live as_it_was NoMemory = (live ≡ false) ⊎ ((live ≡ true) × as_it_was)
 
--- the one history that a stop may leave is the one that is told, and it reads
+-- whatever a stop may leave reads as what is told, and a told history is there
 pub record IsOneHistory (history : Option History) (images : Option History → Type 0) : Type 0 where
   pub only : (read : Option History) → images read → history ≡ read
   pub there : (h : History) → history ≡ Some h → images (Some h)
