@@ -1,5 +1,5 @@
 #!/usr/bin/env python3
-"""Makes a folder with a schema and a target store's journal of so many changes: make_journal.py FOLDER CHANGES
+"""Makes a folder with a schema, and so many changes in a target store's journal and in a segment: make_journal.py FOLDER CHANGES
 
 Of each ten changes six are inserts of new rows, three are updates of rows that stand, and one is a delete, over
 keys in no order. A transaction has 500 changes of channel 1."""
@@ -65,9 +65,9 @@ def number(n):
     return n.to_bytes(4, "big")
 
 
-def payloads():
+def payloads(all_lines):
     lines = []
-    for line in events():
+    for line in all_lines:
         lines.append(number(len(line)) + line)
         if len(lines) == 500:
             yield b"E" + number(1) + number(len(lines)) + b"".join(lines)
@@ -76,11 +76,14 @@ def payloads():
         yield b"E" + number(1) + number(len(lines)) + b"".join(lines)
 
 
-os.makedirs(os.path.join(folder, "recording"))
-os.makedirs(os.path.join(folder, "target"))
+for name in ("recording", "target", "export"):
+    os.makedirs(os.path.join(folder, name))
 with open(os.path.join(folder, "recording", "schema.json"), "w") as schema:
     json.dump(SCHEMA, schema)
+made = list(events())
 with open(os.path.join(folder, "target", "store.journal"), "wb") as journal:
-    for payload in payloads():
+    for payload in payloads(made):
         journal.write(b"\x01" + number(len(payload)) + payload)
     journal.write(b"\x00")
+with open(os.path.join(folder, "export", "segment.0.ndjson"), "wb") as segment:
+    segment.write(b"".join(line + b"\n" for line in made))

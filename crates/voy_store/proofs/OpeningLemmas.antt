@@ -5,20 +5,17 @@ use Rattle.std.specs.Global.{Vec}
 use Rattle.std.specs.Option.{option_and_then, option_map}
 use Rattle.voy_disk.specs.Calls.{Change, told}
 use Rattle.voy_disk.specs.Files.{Files, IfTold, bytes_now}
-use Rattle.voy_disk.specs.Images.{ImagesOf}
-use Rattle.voy_disk.specs.Steps.{Every}
 use Rattle.voy_journal.specs.Grammar.{Fit, HasPayloads, entries}
-use Rattle.voy_journal.specs.Journal.{StandsOn, journal_name, known_payloads, payloads_in}
+use Rattle.voy_journal.specs.Journal.{known_payloads}
 use Rattle.voy_journal.specs.RefusalLaws.{refused_behind}
 use Rattle.voy_journal.specs.Refusals.{refused_from}
 use Rattle.voy_journal.specs.declared.state.Journal.{Journal}
 use Rattle.voy_journal.specs.declared.limits.TheConstants.{MAX_PAYLOAD_BYTES}
 use Rattle.voy_schema.specs.declared.table.Table.{Table}
 use Rattle.voy_store.proofs.JournalLogLemmas.{history_more, history_of_one, more}
-use Rattle.voy_store.specs.JournalLogLaws.{stands_as_known}
 use Rattle.voy_store.specs.JournalLogs.{history_on, history_told}
 use Rattle.voy_store.specs.Opening.{TellsStored}
-use Rattle.voy_store.specs.Stored.{bad_gate, contents_with, if_taken, store_name}
+use Rattle.voy_store.specs.Stored.{bad_gate, contents_with, if_taken}
 use Rattle.voy_store.specs.Taking.{AreTaken}
 use Rattle.voy_txn.specs.Commits.{is_next}
 use Rattle.voy_txn.specs.Contents.{Contents, contents_after}
@@ -120,12 +117,4 @@ tells_stored schema name payloads journal contents fs new has (told {new = y} ot
   history = taken.history;
   stored = record { payloads = payloads; has = has; read = taken.read; good = good };
   is = ap (history_told schema) (known y refl) ∙ taken.read;
-}
-
--- each image has the history that the journal knows
-pub every_tells : (schema : List Table) (journal : Journal) (files : Option Files) → journal_name journal ≡ store_name → StandsOn journal files
-    → Every (ImagesOf files) (λ image. history_told schema (payloads_in store_name image) ≡ history_on schema journal files)
-every_tells schema journal files named stands = record {
-  each = λ image is.
-      ap (λ name. history_told schema (payloads_in name image)) (sym named) ∙ ap (history_told schema) (stands_as_known journal.name journal.gate files image stands is);
 }

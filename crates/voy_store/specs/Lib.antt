@@ -2,6 +2,8 @@ pub mod Logs
 pub mod Stored
 pub mod Told
 pub mod ToldLaws
+pub mod Beside
+pub mod BesideLaws
 pub mod JournalLogs
 pub mod JournalLogLaws
 pub mod Opening

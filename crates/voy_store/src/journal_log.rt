@@ -1,6 +1,7 @@
 ghost use Rattle.std.specs.Prelude.{◌≡◌, IfOk, Some};
 ghost use Rattle.voy_disk.specs.Images.{ImagesOf};
 ghost use Rattle.voy_journal.specs.Journal.{StandsOn, is_live, journal_name};
+ghost use Rattle.voy_store.specs.Beside.{files_beside};
 ghost use Rattle.voy_store.specs.JournalLogs.{HasHistory, history_on};
 ghost use Rattle.voy_store.specs.JournalLogLaws.{one_journal_history};
 ghost use Rattle.voy_store.specs.Stored.{store_name};
@@ -32,6 +33,8 @@ impl<D: Disk> Log for JournalLog<D> {
     ghost history = { λ schema log. history_on schema log.journal (D.files log.disk) };
 
     ghost images = { λ schema log. HasHistory schema (ImagesOf (D.files log.disk)) };
+
+    ghost beside = { λ log. files_beside store_name (D.files log.disk) };
 
     ghost faults = { λ log. D.faults log.disk };
 

@@ -1,16 +1,16 @@
-ghost use Rattle.std.specs.Prelude.{◌≡◌, Some, IfErr, IfOk, IsTrue};
-ghost use Rattle.voy_contents.specs.Known.{schema_of};
+ghost use Rattle.std.specs.Prelude.{◌≡◌, true, Some, IfErr, IfOk, IsTrue};
 ghost use Rattle.voy_disk.specs.Calls.{Change};
 ghost use Rattle.voy_disk.specs.Faults.{HasCause};
 ghost use Rattle.voy_disk.specs.Files.{IfTold, bytes_now};
+ghost use Rattle.voy_disk.specs.Frames.{KeepsOtherFiles};
 ghost use Rattle.voy_disk.specs.Images.{ImagesOf};
-ghost use Rattle.voy_disk.specs.Steps.{Every, Follows, StaysTold};
+ghost use Rattle.voy_disk.specs.Steps.{Follows, Same, StaysTold};
 ghost use Rattle.voy_journal.specs.Grammar.{DamagedAt, FitAFile, HasPayloads};
-ghost use Rattle.voy_journal.specs.Journal.{KeepsPayloads, StandsOn, is_live, journal_name, known_payloads, payloads_in};
-ghost use Rattle.voy_store.specs.JournalLogs.{history_on, history_told};
+ghost use Rattle.voy_journal.specs.Journal.{KeepsPayloads, StandsOn, is_live, journal_name, known_payloads};
+ghost use Rattle.voy_store.specs.Beside.{files_beside};
+ghost use Rattle.voy_store.specs.JournalLogs.{HasHistory};
 ghost use Rattle.voy_store.specs.Opening.{TellsStored, cause_of, given_back};
 ghost use Rattle.voy_store.specs.Stored.{IsStoreDamaged, store_name};
-ghost use Rattle.voy_disk.specs.Frames.{KeepsOtherFiles};
 
 use crate::journal_log::JournalLog;
 use crate::log_store::LogStore;
@@ -20,6 +20,7 @@ use std::alloc::{AllocError, Global};
 use voy_disk::{Disk, Name};
 use voy_journal::{Journal, JournalError, Opened};
 use voy_schema::Schema;
+use voy_txn::Store;
 
 /// A store over the journal `store.journal` of a disk.
 pub type JournalStore<D> = LogStore<JournalLog<D>>;
@@ -34,14 +35,14 @@ impl<D: Disk> LogStore<JournalLog<D>> {
     /// It reads the journal once, and holds its payloads until the tables stand.
     pub fn open(alloc: Global, schema: Schema, mut disk: D) -> Result<JournalStore<D>, NotOpened<D>>
         // after Ok
-        ensures schema { IfOk result (λ store. schema_of store.contents ≡ schema.tables) }
+        ensures schema { IfOk result (λ store. ⟦<JournalStore<D> as Store>⟧.schema store ≡ schema.tables) }
         ensures stored { IfOk result (λ store. IfTold (D.files disk) (λ fs.
-            TellsStored schema.tables (bytes_now (fs store_name)) (history_on schema.tables store.log.journal (D.files store.log.disk)))) }
-        ensures every { IfOk result (λ store. Every (ImagesOf (D.files store.log.disk)) (λ image.
-            history_told schema.tables (payloads_in store_name image) ≡ history_on schema.tables store.log.journal (D.files store.log.disk))) }
-        ensures live { IfOk result (λ store. IsTrue (is_live store.log.journal)) }
-        ensures stands { IfOk result (λ store. StandsOn store.log.journal (D.files store.log.disk)) }
-        // whatever it answers
+            TellsStored schema.tables (bytes_now (fs store_name)) (⟦<JournalStore<D> as Store>⟧.history store))) }
+        ensures live { IfOk result (λ store. ⟦<JournalStore<D> as Store>⟧.is_live store ≡ true) }
+        ensures stands { IfOk result (λ store. ⟦<JournalStore<D> as Store>⟧.stands store) }
+        ensures left { IfOk result (λ store. Follows Same (HasHistory schema.tables (ImagesOf (D.files disk))) (⟦<JournalStore<D> as Store>⟧.images store)) }
+        ensures beside { IfOk result (λ store. ⟦<JournalStore<D> as Store>⟧.beside store ≡ files_beside store_name (D.files disk)) }
+        // what it leaves of the disk, whatever it answers
         ensures images { Follows (KeepsPayloads store_name) (ImagesOf (D.files disk)) (ImagesOf (D.files (given_back (λ store. store.log.disk) result))) }
         ensures others { Change (KeepsOtherFiles store_name) (D.files disk) (D.files (given_back (λ store. store.log.disk) result)) }
         ensures told { StaysTold (ImagesOf (D.files disk)) (ImagesOf (D.files (given_back (λ store. store.log.disk) result))) }

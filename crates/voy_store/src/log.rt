@@ -1,6 +1,7 @@
 ghost use base.Fml.{GName};
 ghost use Rattle.std.specs.Prelude.{◌≡◌, ◌≤◌, ℕ, Bool, true, List, [], ◌∷◌, Option, length, IfErr, OnErr, OnOk};
 ghost use Rattle.voy_disk.specs.Faults.{HasCause};
+ghost use Rattle.voy_disk.specs.Files.{Files};
 ghost use Rattle.voy_disk.specs.Steps.{DoesAll, Follows, LeavesPrefix, Same, StaysTold};
 ghost use Rattle.voy_schema.specs.declared.table.Table.{Table};
 ghost use Rattle.voy_store.specs.Logs.{LeavesLog};
@@ -24,6 +25,9 @@ pub trait Log {
     /// What a stop now may leave, as it reads: a history, or none where it does not read as one. Over a disk that
     /// tells nothing there is none of them.
     ghost images: { List Table → Self → Option History → Type 0 };
+
+    /// The files of its disk that are not its own, where the disk tells them; none for a log that has no disk.
+    ghost beside: { Self → Option Files };
 
     /// How many faults there were, in 64 bits; the count stays at its type's end.
     ghost faults: { Self → ℕ };
@@ -55,6 +59,7 @@ pub trait Log {
         ensures all { DoesAll AddsTxns (txn.now ∷ []) result (images schema.now.tables self.old) (images schema.now.tables self.new) }
         ensures prefix { LeavesPrefix AddsTxns (txn.now ∷ []) (images schema.now.tables self.old) (images schema.now.tables self.new) }
         ensures told { StaysTold (images schema.now.tables self.old) (images schema.now.tables self.new) }
+        ensures beside { beside self.new ≡ beside self.old }
         ensures cause { HasCause LogError.Fault (faults self.old) (faults self.new) result }
         ensures lender { lender self.new ≡ lender self.old };
 

@@ -1,11 +1,13 @@
-ghost use Rattle.std.specs.Prelude.{◌≡◌, true, [], Some};
+ghost use Rattle.std.specs.Prelude.{◌≡◌, true, [], None, Some, IfOk};
 ghost use Rattle.voy_store.specs.ToldLaws.{one_history};
 
 use crate::log::Log;
 use crate::log_error::LogError;
-use std::alloc::Global;
+use crate::log_store::LogStore;
+use std::alloc::{AllocError, Global};
+use voy_contents::MemContents;
 use voy_schema::{Copies, Items, Schema};
-use voy_txn::Txn;
+use voy_txn::{Store, Txn};
 
 /// Transactions in memory, the first in front. They are all that a stop may leave.
 #[derive(Debug, Drop)]
@@ -13,14 +15,20 @@ pub struct MemLog {
     pub(crate) txns: Items<Txn>,
 }
 
-impl MemLog {
-    /// No transactions.
-    pub(crate) fn new(alloc: Global) -> MemLog
-        ensures { result.txns ≡ [] }
+/// A store in memory. It tells its history, which is all that a stop may leave, and never has a fault.
+pub type MemStore = LogStore<MemLog>;
+
+impl LogStore<MemLog> {
+    /// A store of this schema with no transactions.
+    pub fn new(alloc: Global, schema: Schema) -> Result<MemStore, AllocError>
+        ensures schema { IfOk result (λ made. ⟦<MemStore as Store>⟧.schema made ≡ schema.tables) }
+        ensures empty { IfOk result (λ made. ⟦<MemStore as Store>⟧.history made ≡ Some []) }
     {
-        MemLog {
+        let contents = MemContents::new(alloc, schema)?;
+        let log = MemLog {
             txns: Items::new(alloc),
-        }
+        };
+        Ok(LogStore { contents, log })
     }
 }
 
@@ -28,6 +36,8 @@ impl Log for MemLog {
     ghost history = { λ schema log. Some log.txns };
 
     ghost images = { λ schema log read. read ≡ Some log.txns };
+
+    ghost beside = { λ log. None };
 
     ghost faults = { λ log. 0 };
 

@@ -18,6 +18,8 @@ impl<L: Log> Store for LogStore<L> {
 
     ghost images = { λ s. L.images (schema_of s.contents) s.log };
 
+    ghost beside = { λ s. L.beside s.log };
+
     ghost faults = { λ s. L.faults s.log };
 
     ghost is_live = { λ s. L.is_live s.log };
@@ -43,6 +45,10 @@ impl<L: Log> Store for LogStore<L> {
 
     fn last(&self, channel: u32) -> u64 {
         self.contents.last(channel)
+    }
+
+    fn channels(&self) -> Option<u32> {
+        self.contents.channels()
     }
 
     fn has_batch(&self, table: u32, number: u32) -> bool {

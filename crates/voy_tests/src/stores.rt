@@ -1,6 +1,4 @@
-ghost use Rattle.std.specs.Prelude.{◌≡◌, true, IfOk, IsTrue};
-ghost use Rattle.voy_contents.specs.Known.{schema_of};
-ghost use Rattle.voy_journal.specs.Journal.{StandsOn, is_live};
+ghost use Rattle.std.specs.Prelude.{◌≡◌, true, IfOk};
 
 use crate::made::{disk_with, name_of, stopping_disk, users};
 use crate::store_texts::{BATCH, commit, events, told};
@@ -162,12 +160,19 @@ fn try_fault_at_commit(rt: &(impl Abort + AllocGlobal), call: u64) -> Result<(),
 }
 
 fn opened<D: Disk + Drop>(alloc: Global, schema: &Schema, disk: D) -> Result<JournalStore<D>, Fail>
-    ensures schema { IfOk result (λ store. schema_of store.contents ≡ schema.now.tables) }
-    ensures live { IfOk result (λ store. IsTrue (is_live store.log.journal)) }
-    ensures stands { IfOk result (λ store. StandsOn store.log.journal (D.files store.log.disk)) }
+    ensures schema { IfOk result (λ store. ⟦<JournalStore<D> as Store>⟧.schema store ≡ schema.now.tables) }
+    ensures live { IfOk result (λ store. ⟦<JournalStore<D> as Store>⟧.is_live store ≡ true) }
+    ensures stands { IfOk result (λ store. ⟦<JournalStore<D> as Store>⟧.stands store) }
 {
     match JournalStore::open(alloc, schema.copy()?, disk) {
         Ok(store) => Ok(store),
         Err(_refused) => Err("no store".into()),
     }
+}
+
+/// A store over a lent disk may be given to another thread: that this compiles is the test.
+fn is_sent<T: Send>(_store: &T) {}
+
+fn _lent_stores_are_sent<D: Disk + Send>(store: &JournalStore<&mut D>) {
+    is_sent(store);
 }

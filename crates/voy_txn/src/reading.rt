@@ -5,9 +5,7 @@ ghost use Rattle.voy_txn.specs.declared.txn.Txn.{Txn as Transaction};
 
 use crate::fields::{number_of, vsn_of};
 use crate::items::ascending_items;
-use crate::limits::{
-    BATCH_KIND, EPOCH_KIND, EVENTS_KIND, LOAD_KIND, MAX_CHANNELS, MAX_TXN_ITEMS,
-};
+use crate::limits::{BATCH_KIND, EPOCH_KIND, EVENTS_KIND, LOAD_KIND, MAX_CHANNELS, MAX_TXN_ITEMS};
 use crate::rows::{batch_rows, lists_of};
 use crate::txn::Txn;
 use crate::unread::Unread;

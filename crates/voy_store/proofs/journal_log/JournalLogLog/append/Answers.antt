@@ -1,3 +1,5 @@
+use Rattle.voy_store.specs.BesideLaws.{beside_stays}
+use Rattle.voy_store.specs.Stored.{store_name}
 use Rattle.voy_store.proofs.JournalLogLemmas.{history_grows, images_add, images_add_some, images_stay_told}
 use Rattle.voy_store.proofs.journal_log.JournalLogLog.append.Goals as goal
 
@@ -32,3 +34,15 @@ returns-in-Err-NoMemory-clause-prefix g c =
 pub returns-in-Err-NoMemory-clause-told : goal.returns-in-Err-NoMemory-clause-told
 returns-in-Err-NoMemory-clause-told g c =
     images_stay_told c.args.schema.now.tables _ _ c.append.ensures.told
+
+pub returns-in-Ok-clause-beside : goal.returns-in-Ok-clause-beside
+returns-in-Ok-clause-beside g c =
+    beside_stays store_name (rw c.args.self.now.named at c.append.ensures.others)
+
+pub returns-in-Err-Fault-clause-beside : goal.returns-in-Err-Fault-clause-beside
+returns-in-Err-Fault-clause-beside g c =
+    beside_stays store_name (rw c.args.self.now.named at c.append.ensures.others)
+
+pub returns-in-Err-NoMemory-clause-beside : goal.returns-in-Err-NoMemory-clause-beside
+returns-in-Err-NoMemory-clause-beside g c =
+    beside_stays store_name (rw c.args.self.now.named at c.append.ensures.others)
