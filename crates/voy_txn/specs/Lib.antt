@@ -12,3 +12,6 @@ pub mod LoadLaws
 pub mod TableNames
 pub mod Sizes
 pub mod SizeLaws
+pub mod BatchRows
+pub mod BatchRowLaws
+pub mod BatchTableLaws
