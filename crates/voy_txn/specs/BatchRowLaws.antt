@@ -11,7 +11,7 @@ use Rattle.voy_txn.specs.BatchRows.{batch_in, batches_in, rows_in_batches, rows_
 use Rattle.voy_txn.specs.Contents.{contents_of, is_batch}
 use Rattle.voy_txn.specs.History.{History, batch_rows_after, batch_rows_of, batches_of, counted}
 use Rattle.voy_txn.specs.declared.txn.Txn.{Txn}
-use Rattle.voy_txn.specs.declared.txn.Txn.TheVariants.{Load, Batch, Events}
+use Rattle.voy_txn.specs.declared.txn.Txn.TheVariants.{Load, Batch, Events, Epoch}
 
 -- ---- growth
 
@@ -51,6 +51,7 @@ pub has_batch_in : (schema : List Table) (history : History) (table batch : ℕ)
 has_batch_in schema [] table batch = refl
 has_batch_in schema (Load tables ∷ history) table batch = has_batch_in schema history table batch
 has_batch_in schema (Events channel items ∷ history) table batch = has_batch_in schema history table batch
+has_batch_in schema (Epoch vsn channels ∷ history) table batch = has_batch_in schema history table batch
 has_batch_in schema (Batch place number rows ∷ history) table batch = by (place == table) refl (has_batch_in schema history table batch) where
   turned : (table == place) ≡ (place == table)
   turned = grind arith
@@ -68,6 +69,7 @@ batch_rows_add : (t : ℕ) (history : History) (counts : ℕ → ℕ) → counts
 batch_rows_add t [] counts small = omega (arith, small)
 batch_rows_add t (Load tables ∷ history) counts small = batch_rows_add t history counts small
 batch_rows_add t (Events channel items ∷ history) counts small = batch_rows_add t history counts small
+batch_rows_add t (Epoch vsn channels ∷ history) counts small = batch_rows_add t history counts small
 batch_rows_add t (Batch table batch rows ∷ history) counts small = by (t == table) refl (batch_rows_add t history after) where
   after : ℕ → ℕ
   after = batch_rows_after counts (Batch table batch rows)

@@ -6,13 +6,14 @@ use Rattle.voy_schema.specs.declared.value.Value.{Value}
 use Rattle.voy_tables.specs.Lists.{with_row}
 use Rattle.voy_txn.specs.History.{History, batch_of}
 use Rattle.voy_txn.specs.declared.txn.Txn.{Txn}
-use Rattle.voy_txn.specs.declared.txn.Txn.TheVariants.{Load, Batch, Events}
+use Rattle.voy_txn.specs.declared.txn.Txn.TheVariants.{Load, Batch, Events, Epoch}
 
 -- the number and rows of a batch of this table
 abbrev pub batch_in : ℕ → Txn → Option (ℕ × List (List Value))
 batch_in t (Load tables) = None
 batch_in t (Batch table batch rows) = if t == table then Some (batch, rows) else None
 batch_in t (Events channel items) = None
+batch_in t (Epoch vsn channels) = None
 
 -- the number and rows of each batch of this table
 abbrev pub batches_in : ℕ → History → List (ℕ × List (List Value))

@@ -16,7 +16,7 @@ use Rattle.voy_txn.specs.BatchRows.{are_batches, rows_in_batches, with_rows}
 use Rattle.voy_txn.specs.History.{History, tables_after, tables_of}
 use Rattle.voy_txn.specs.Items.{inserts_from}
 use Rattle.voy_txn.specs.LoadLaws.{fold_lists-append}
-use Rattle.voy_txn.specs.declared.txn.Txn.TheVariants.{Load, Batch, Events}
+use Rattle.voy_txn.specs.declared.txn.Txn.TheVariants.{Load, Batch, Events, Epoch}
 
 -- each table of the schema has these rows, put into it one after the other
 abbrev HaveRows : List Table → List (List (List Value)) → (ℕ → List (List Value)) → Type 0
@@ -103,6 +103,7 @@ batches_add : (schema : List Table) (lists : List (List (List Value))) (before :
 batches_add schema lists before [] all have = λ n. rw (append-nil (before n)) (have n)
 batches_add schema lists before (Load tables ∷ history) all have = cc
 batches_add schema lists before (Events channel items ∷ history) all have = cc
+batches_add schema lists before (Epoch vsn channels ∷ history) all have = cc
 batches_add schema lists before (Batch table batch rows ∷ history) all have =
     let first : List (List (List Value)) = tables_after schema lists (Batch table batch rows) in
     let rest = batches_add schema first (added_at table rows before) history all (inserts_add schema lists before table rows have) in

@@ -22,17 +22,21 @@ use Rattle.voy_event.specs.declared.event.Event.{Event}
 use Rattle.voy_txn.specs.Commits.{max_payload_bytes}
 use Rattle.voy_txn.specs.Items.{inserts_from, items_of}
 use Rattle.voy_txn.specs.LawfulTxn.{AreLoaded, AreWritten, IsLawfulItem, IsLawfulTxn}
-use Rattle.voy_txn.specs.Payload.{item_part, number, payload_of, rows_part, sized}
+use Rattle.voy_txn.specs.Payload.{item_part, number, payload_of, rows_part, sized, vsn_bytes}
 use Rattle.voy_txn.specs.Sizes.{AreSortedRows, HasLines, item_size, payload_size, rows_size}
 use Rattle.voy_txn.specs.TableNames.{width_of}
 use Rattle.voy_txn.specs.declared.txn.Txn.{Txn}
-use Rattle.voy_txn.specs.declared.txn.Txn.TheVariants.{Load, Batch, Events}
+use Rattle.voy_txn.specs.declared.txn.Txn.TheVariants.{Load, Batch, Events, Epoch}
 
 -- ---- the length of a payload
 
 number_size : (n : ℕ) → length (number n) ≡ 4
 unfolding number
 number_size n = refl
+
+vsn_size : (vsn : ℕ) → length (vsn_bytes vsn) ≡ 8
+unfolding vsn_bytes
+vsn_size vsn = refl
 
 sized_size : (text : List ℕ) → length (sized text) ≡ 4 + length text
 unfolding sized
@@ -73,6 +77,7 @@ payload_has_size schema (Events channel items) =
       number_size (length items),
       parts_size (item_part schema) (item_size schema) (λ item. sized_size (line_text schema item)) items,
     )
+payload_has_size schema (Epoch vsn channels) = omega (arith, length-append (vsn_bytes vsn) (number channels), vsn_size vsn, number_size channels)
 
 -- ---- what a payload's bytes bound
 
@@ -90,6 +95,7 @@ pub load_is_narrow : (schema : List Table) (txn : Txn) → 5 + 8 * width_of txn 
 load_is_narrow schema (Load tables) = omega (arith, payload_has_size schema (Load tables), lists_are_few tables)
 load_is_narrow schema (Batch table batch rows) = omega (arith, payload_has_size schema (Batch table batch rows))
 load_is_narrow schema (Events channel items) = omega (arith, payload_has_size schema (Events channel items))
+load_is_narrow schema (Epoch vsn channels) = omega (arith, payload_has_size schema (Epoch vsn channels))
 
 -- events have four bytes at least for each
 lines_are_few : (schema : List Table) (items : List Event) → 4 * length items ≤ sum_by (item_size schema) items
@@ -123,6 +129,7 @@ pub items_are_few : (schema : List Table) (txn : Txn) → length (items_of txn) 
 items_are_few schema (Load tables) = omega (arith, payload_has_size schema (Load tables), inserts_are_few 0 tables)
 items_are_few schema (Batch table batch rows) = omega (arith, payload_has_size schema (Batch table batch rows), length-map rows (Insert table), rows_are_few rows)
 items_are_few schema (Events channel items) = omega (arith, payload_has_size schema (Events channel items), changes_are_few items, lines_are_few schema items)
+items_are_few schema (Epoch vsn channels) = omega (arith, payload_has_size schema (Epoch vsn channels))
 
 -- ---- what bounds a payload's bytes
 
@@ -157,6 +164,7 @@ pub lawful_has_lines : (schema : List Table) (txn : Txn) → IsLawfulTxn schema 
 lawful_has_lines schema (Load tables) lawful = tt
 lawful_has_lines schema (Batch table batch rows) lawful = tt
 lawful_has_lines schema (Events channel items) lawful = lawful_items_have_lines schema items lawful.each
+lawful_has_lines schema (Epoch vsn channels) lawful = tt
 
 -- rows of few bytes are few
 short_rows : (t : Table) (rows : List (List Value)) → list_all (is_written t) rows ≡ true → length (row_lines rows) < 2 ^ 32 → AreWritten t rows

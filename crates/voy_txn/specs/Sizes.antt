@@ -14,7 +14,7 @@ use Rattle.voy_txn.specs.Items.{items_of}
 use Rattle.voy_txn.specs.LawfulTxn.{IsLawfulTxn}
 use Rattle.voy_txn.specs.Payload.{payload_of}
 use Rattle.voy_txn.specs.declared.txn.Txn.{Txn}
-use Rattle.voy_txn.specs.declared.txn.Txn.TheVariants.{Load, Batch, Events}
+use Rattle.voy_txn.specs.declared.txn.Txn.TheVariants.{Load, Batch, Events, Epoch}
 
 -- the texts of rows, behind the number of rows and the number of bytes
 abbrev pub rows_size : List (List Value) → ℕ
@@ -29,12 +29,14 @@ abbrev pub payload_size : List Table → Txn → ℕ
 payload_size schema (Load tables) = 5 + sum_by rows_size tables
 payload_size schema (Batch table batch rows) = 9 + rows_size rows
 payload_size schema (Events channel items) = 9 + sum_by (item_size schema) items
+payload_size schema (Epoch vsn channels) = 13
 
 -- each of its events belongs to the schema, so that it has a line; rows may be any
 abbrev pub HasLines : List Table → Txn → Type 0
 HasLines schema (Load tables) = Unit {0}
 HasLines schema (Batch table batch rows) = Unit {0}
 HasLines schema (Events channel items) = AllByRecursion (IsWritable schema) items
+HasLines schema (Epoch vsn channels) = Unit {0}
 
 -- for each table of the schema rows within their limit by ascending key, however many
 abbrev pub AreSortedRows : List Table → List (List (List Value)) → Type 0

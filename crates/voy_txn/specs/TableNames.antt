@@ -12,7 +12,7 @@ use Rattle.voy_txn.specs.Items.{items_of}
 use Rattle.voy_txn.specs.LawfulTxn.{AreRowsOf, IsLawfulTxn}
 use Rattle.voy_txn.specs.LoadLaws.{items_are_well_formed}
 use Rattle.voy_txn.specs.declared.txn.Txn.{Txn}
-use Rattle.voy_txn.specs.declared.txn.Txn.TheVariants.{Load, Batch, Events}
+use Rattle.voy_txn.specs.declared.txn.Txn.TheVariants.{Load, Batch, Events, Epoch}
 
 -- each of these changes is of one of so many tables
 abbrev pub are_below : ℕ → List Change → Bool
@@ -23,12 +23,14 @@ abbrev pub width_of : Txn → ℕ
 width_of (Load tables) = length tables
 width_of (Batch table batch rows) = 0
 width_of (Events channel items) = 0
+width_of (Epoch vsn channels) = 0
 
 -- a batch, and the changes of events, are of one of so many tables
 abbrev pub NamesTables : ℕ → Txn → Type 0
 NamesTables count (Load tables) = Unit {0}
 NamesTables count (Batch table batch rows) = nat_lt table count ≡ true
 NamesTables count (Events channel items) = are_below count (items_of (Events channel items)) ≡ true
+NamesTables count (Epoch vsn channels) = Unit {0}
 
 -- where a row is of the table at a place, there is that place
 row_within : (schema : List Table) (place : ℕ) (row : List Value) → is_row_of (slice_get schema place) row ≡ true → nat_lt place (length schema) ≡ true
@@ -60,3 +62,4 @@ names_tables schema (Batch table batch rows) lawful = by (slice_get schema table
   by None is of = absurd of
   by (Some t) is of = lt-ltb table (length schema) (slice_get_within schema table t is)
 names_tables schema (Events channel items) lawful = items_are_below schema (Events channel items) lawful
+names_tables schema (Epoch vsn channels) lawful = tt

@@ -22,6 +22,9 @@ const BATCH_HEAD_BYTES: u64 = 9;
 /// Those of events in front of their lines: their kind, their channel, and how many they are.
 const EVENTS_HEAD_BYTES: u64 = 9;
 
+/// The bytes of an epoch: its kind, its vsn, and how many channels.
+const EPOCH_BYTES: u64 = 13;
+
 /// The bytes in front of the texts of a part: how many rows, and how many bytes they take.
 const PART_HEAD_BYTES: u64 = 8;
 
@@ -49,6 +52,7 @@ pub fn payload_bytes(alloc: Global, schema: &Schema, txn: &Txn) -> Result<u64, A
             let parts = items_bytes(alloc, schema, items.as_slice())?;
             Ok(parts.saturating_add(EVENTS_HEAD_BYTES))
         }
+        Txn::Epoch { .. } => Ok(EPOCH_BYTES),
     }
 }
 

@@ -1,6 +1,6 @@
 use Rattle.std.proofs.Common.{arith}
 use Rattle.voy_txn.specs.SizeLaws.{payload_has_size}
-use Rattle.voy_txn.specs.declared.txn.Txn.TheVariants.{Load, Batch, Events}
+use Rattle.voy_txn.specs.declared.txn.Txn.TheVariants.{Load, Batch, Events, Epoch}
 use Rattle.voy_txn.proofs.sizes.payload_bytes.Goals as goal
 
 pub returns-in_ok-parts-in-Load : goal.returns-in_ok-parts-in-Load
@@ -19,3 +19,6 @@ returns-in_ok-parts-in-Events c =
     let parts = rw c.as_slice-in-Events.ensures at c.in_ok-parts-in-Events.ensures in
     rw (c.in-Events.is, payload_has_size c.args.schema.now.tables (Events c.in-Events.channel c.in-Events.items))
     (omega (arith, c.saturating_add-in-Events.ensures, parts))
+
+pub returns-in-Epoch : goal.returns-in-Epoch
+returns-in-Epoch c = rw (c.in-Epoch.is, payload_has_size c.args.schema.now.tables (Epoch c.in-Epoch.vsn c.in-Epoch.channels)) (omega arith)
