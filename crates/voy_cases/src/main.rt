@@ -18,6 +18,7 @@ mod plain;
 mod rows;
 mod schemas;
 mod showing;
+mod sizes;
 mod stores;
 mod trouble;
 mod txns;
@@ -77,6 +78,7 @@ fn came_to(alloc: Global, case: &Case) -> Result<String, Trouble> {
         "written" => events::written(alloc, case),
         "exported" => events::exported(alloc, case),
         "txn" => txns::txn(alloc, case),
+        "size" => sizes::size(alloc, case),
         "name" => files::name(alloc, case),
         "lines" => files::lines(alloc, case),
         "range" => files::range(alloc, case),

@@ -3,8 +3,8 @@ use crate::stores::place_of;
 use crate::trouble::Trouble;
 use std::alloc::Global;
 
-/// The payload of a transaction in short form: `batch TABLE NUMBER ROW;ROW..`, `load ROW;ROW..` of one table, or
-/// `changes CHANNEL CHANGE;CHANGE..`. The rows are row texts without LF; a change is `c VSN ID EMAIL`,
+/// The payload of a transaction in short form: `batch TABLE NUMBER ROW;ROW..`, `load ROW;ROW..` of one table,
+/// `epoch VSN CHANNELS`, or `changes CHANNEL CHANGE;CHANGE..`. The rows are row texts without LF; a change is `c VSN ID EMAIL`,
 /// `u VSN ID EMAIL EMAIL` or `d VSN ID EMAIL` of `public.users`.
 pub fn payload_of(alloc: Global, text: &str) -> Result<Vec<u8>, Trouble> {
     let (kind, behind) = first_word(text);
@@ -22,6 +22,12 @@ pub fn payload_of(alloc: Global, text: &str) -> Result<Vec<u8>, Trouble> {
             payload.extend_from_slice(b"L")?;
             push_length(1, &mut payload)?;
             push_rows(alloc, behind, &mut payload)?;
+        }
+        "epoch" => {
+            let (vsn, channels) = first_word(behind);
+            payload.extend_from_slice(b"N")?;
+            payload.extend_from_slice(&number_of(vsn)?.to_be_bytes())?;
+            payload.extend_from_slice(&place_of(channels)?.to_be_bytes())?;
         }
         _ => {
             let (channel, changes) = first_word(behind);

@@ -73,7 +73,7 @@ fn answer(
 {
     let (verb, behind) = first_word(row);
     match verb {
-        "batch" | "load" | "changes" => commit(alloc, schema, store, row),
+        "batch" | "load" | "changes" | "epoch" => commit(alloc, schema, store, row),
         "has" => {
             let (table, number) = first_word(behind);
             let is_there = store.has_batch(place_of(table)?, place_of(number)?);
@@ -82,6 +82,7 @@ fn answer(
         "loaded" => told(alloc, yes_or_no(store.loaded())),
         "live" => told(alloc, yes_or_no(store.live())),
         "last" => Ok(format!(in alloc; "{}", store.last(place_of(behind)?))?),
+        "channels" => channels_told(alloc, store),
         "row" => row_shown(alloc, store, behind),
         "show" => shown_text(alloc, schema, store),
         _ => Err(Trouble::Case("no such call")),
@@ -92,7 +93,7 @@ fn yes_or_no(yes: bool) -> &'static str {
     if yes { "yes" } else { "no" }
 }
 
-/// A place of a table, a batch's number or a channel.
+/// A place of a table, a batch's number, a channel or how many channels.
 pub fn place_of(text: &str) -> Result<u32, Trouble> {
     match u32::try_from(number_of(text)?) {
         Ok(place) => Ok(place),
@@ -139,6 +140,14 @@ fn answer_text(alloc: Global, answer: Result<(), StoreError>) -> Result<String, 
             let why = misfit_text(alloc, why)?;
             Ok(format!(in alloc; "item {item}: {why}")?)
         }
+    }
+}
+
+/// How many channels the last epoch said.
+fn channels_told(alloc: Global, store: &MemStore) -> Result<String, Trouble> {
+    match store.channels() {
+        Some(channels) => Ok(format!(in alloc; "{channels}")?),
+        None => told(alloc, "none"),
     }
 }
 

@@ -7,7 +7,7 @@ use crate::values::push_rows;
 use std::alloc::Global;
 use voy_event::Event;
 use voy_schema::{Bytes, Copies, Row, Rows, Schema};
-use voy_txn::{Txn, read_txn, write_txn};
+use voy_txn::{Txn, payload_bytes, read_txn, write_txn};
 
 /// The transaction whose payload the rows are, and their number of bytes.
 pub fn txn(alloc: Global, case: &Case) -> Result<String, Trouble> {
@@ -22,7 +22,8 @@ pub fn txn(alloc: Global, case: &Case) -> Result<String, Trouble> {
     }
 }
 
-/// The transaction in words, once a copy of it was written as the same payload.
+/// The transaction in words, once a copy of it was written as the same payload, whose size was told before.
+#[tactic(auto, using(voy_txn::specs::SizeLaws::lawful_has_lines))]
 fn written_again(
     alloc: Global,
     schema: &Schema,
@@ -31,11 +32,15 @@ fn written_again(
     let Some(txn) = read_txn(alloc, schema, payload)? else {
         return Ok(None);
     };
+    let size = payload_bytes(alloc, schema, &txn)?;
     let written = payload_of_copy(alloc, schema, &txn)?;
     if !stands_behind(payload, written.as_slice()) {
         return Err(Trouble::Apart("the payload is written otherwise"));
     }
     let count = payload.len();
+    if size != count as u64 {
+        return Err(Trouble::Apart("the payload has another size"));
+    }
     let mut shown = format!(in alloc; "{count} bytes, ")?;
     push_txn(alloc, schema, &txn, &mut shown)?;
     Ok(Some(shown))
@@ -76,6 +81,11 @@ fn push_txn(alloc: Global, schema: &Schema, txn: &Txn, to: &mut String) -> Resul
             let head = format!(in alloc; "changes of channel {channel} with vsn")?;
             to.push_str(head.as_str())?;
             push_vsns(alloc, items.as_slice(), to)
+        }
+        Txn::Epoch { vsn, channels } => {
+            let text = format!(in alloc; "epoch of {channels} channels at vsn {vsn}")?;
+            to.push_str(text.as_str())?;
+            Ok(())
         }
     }
 }

@@ -9,3 +9,9 @@ pub mod Commits
 pub mod HistoryLaws
 pub mod CleanLaws
 pub mod LoadLaws
+pub mod TableNames
+pub mod Sizes
+pub mod SizeLaws
+pub mod BatchRows
+pub mod BatchRowLaws
+pub mod BatchTableLaws

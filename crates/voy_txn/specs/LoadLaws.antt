@@ -89,7 +89,7 @@ inserts_at schema t front back done (row ∷ rows) found up =
     one : lists_after schema (row_change schema (Insert (length front) row)) (front ++ done ∷ back) ≡ front ++ (done ++ row ∷ []) ∷ back
     one = rw (found, get_middle front done back, append_row t row done (below_middle t done row rows up)) (set_middle front done (done ++ row ∷ []) back)
 
-fold_lists-append : (schema : List Table) (lists : List (List (List Value))) (xs ys : List RowChange)
+pub fold_lists-append : (schema : List Table) (lists : List (List (List Value))) (xs ys : List RowChange)
     → fold_lists schema lists (xs ++ ys) ≡ fold_lists schema (fold_lists schema lists xs) ys
 fold_lists-append schema lists [] ys = refl
 fold_lists-append schema lists (x ∷ xs) ys = fold_lists-append schema (lists_after schema x lists) xs ys

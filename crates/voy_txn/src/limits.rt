@@ -4,6 +4,9 @@ pub const MAX_CHANNELS: u32 = 512;
 /// The most changes of one transaction. A payload with more is none.
 pub const MAX_TXN_ITEMS: u32 = 1_000;
 
+/// The most bytes of a payload that a store takes; [`Store::commit`](crate::Store::commit) asks for no more.
+pub const MAX_PAYLOAD_BYTES: u64 = 1_073_741_824;
+
 /// The bytes of a vsn in a payload.
 pub(crate) const VSN_BYTES: usize = 8;
 
