@@ -11,6 +11,7 @@ use Rattle.voy_command.specs.Stops.{is_refusal}
 use Rattle.voy_command.specs.declared.answer.Answer.{Answer}
 use Rattle.voy_command.specs.declared.answer.Answer.TheVariants.{Done, Waiting, Shown, NoCommand, NoReading, Fault, NoMemory, Damaged, Invalid, Refused, OutputFault, TooLong, NotBuilt}
 use Rattle.voy_command.specs.declared.fold.Fold.{Fold}
+use Rattle.voy_contents.specs.Tables.{lists_in, schema_in}
 
 grown-nothing : (w : Option (List ℕ)) → w ≡ grown w []
 grown-nothing None = refl
@@ -73,7 +74,7 @@ or_false true = refl
 or_false false = refl
 
 -- behind the last line the outcome is the fold's own
-pub ends : (f : Fold) → outcome_from f [] ≡ shown f.plain.schema.tables f.plain.lists f.last f.ended
+pub ends : (f : Fold) → outcome_from f [] ≡ shown (schema_in f.tables) (lists_in f.tables) f.last f.ended
 ends f = rw (add-zero f.last, or_false f.ended) refl
 
 -- a file has a length exactly where it is there

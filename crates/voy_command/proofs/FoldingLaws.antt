@@ -27,6 +27,7 @@ use Rattle.voy_command.specs.Stops.{is_refusal}
 use Rattle.voy_command.specs.declared.answer.Answer.{Answer}
 use Rattle.voy_command.specs.declared.answer.Answer.TheVariants as answer
 use Rattle.voy_command.specs.declared.fold.Fold.{Fold}
+use Rattle.voy_contents.specs.Tables.{lists_in, schema_in}
 
 Lists : Type 0
 Lists = List (List (List Value))
@@ -110,8 +111,8 @@ lines_misfit schema lists last ended line e lines next misfit =
 
 pub goes_on : (old new : Fold) (line : List ℕ) (e : Event) → IsNext old line e → Takes old e new → GoesOn old line new
 goes_on old new line e next takes = λ lines.
-    let vsn : (e.vsn ≡ old.last + 1) × (old.ended ≡ false) = next_is (old.last + 1) old.ended (line_reading old.plain.schema.tables line) e next in
-    lines_more old.plain.schema.tables old.plain.lists old.last old.ended line e lines next takes.fits
+    let vsn : (e.vsn ≡ old.last + 1) × (old.ended ≡ false) = next_is (old.last + 1) old.ended (line_reading (schema_in old.tables) line) e next in
+    lines_more (schema_in old.tables) (lists_in old.tables) old.last old.ended line e lines next takes.fits
     ∙ rw (takes.schema, takes.lists, takes.last, takes.ended, vsn.0) refl
 
 pub next_vsn : (old new : Fold) (line : List ℕ) (e : Event) → IsNext old line e → Takes old e new → new.last ≡ old.last + 1
@@ -130,7 +131,7 @@ stops_no_next old line a (inl memory) = inl memory
 stops_no_next old line a (inr refused) = inr (
   rw refused.2 (is_refusal-line_refusal (old.last + 1) refused.0),
   λ lines.
-      lines_refused old.plain.schema.tables old.plain.lists old.last old.ended line refused.0 lines refused.1 ∙ ap refusing (sym refused.2),
+      lines_refused (schema_in old.tables) (lists_in old.tables) old.last old.ended line refused.0 lines refused.1 ∙ ap refusing (sym refused.2),
 )
 
 pub stops_no_fit : (old : Fold) (line : List ℕ) (e : Event) (a : Answer) → IsNext old line e → IsNoFit old e a → Stops old line a
@@ -138,5 +139,5 @@ stops_no_fit old line e a next (inl memory) = inl memory
 stops_no_fit old line e a next (inr misfit) = inr (
   rw misfit.1 refl,
   λ lines.
-      lines_misfit old.plain.schema.tables old.plain.lists old.last old.ended line e lines next misfit.0 ∙ ap refusing (sym misfit.1),
+      lines_misfit (schema_in old.tables) (lists_in old.tables) old.last old.ended line e lines next misfit.0 ∙ ap refusing (sym misfit.1),
 )

@@ -26,6 +26,7 @@ use Rattle.voy_command.specs.declared.answer.Answer.{Answer}
 use Rattle.voy_command.specs.declared.answer.Answer.TheVariants as answer
 use Rattle.voy_command.specs.declared.fold.Fold.{Fold}
 use Rattle.voy_command.proofs.FoldingLaws.{lines_refused}
+use Rattle.voy_contents.specs.Tables.{lists_in, schema_in}
 
 more_behind : (line : List ℕ) (lines : List (List ℕ)) → lines ≢ [] → without_closing (line ∷ lines) ≡ line ∷ without_closing lines
 more_behind line [] some = absurd (some refl)
@@ -81,7 +82,7 @@ pub long_line : (f : Fold) (line : List ℕ) (rest : List (List ℕ)) → max_ev
     → outcome_from f (without_closing (line ∷ rest)) ≡ refusing (answer.TooLong (f.last + 1))
 long_line f line rest long =
     ap (outcome_from f) (stays rest)
-    ∙ lines_refused f.plain.schema.tables f.plain.lists f.last f.ended line why.TooLong (without_closing rest) (rw past refl)
+    ∙ lines_refused (schema_in f.tables) (lists_in f.tables) f.last f.ended line why.TooLong (without_closing rest) (rw past refl)
   where
     past : nat_lt max_event_line_bytes (length line) ≡ true
     past = grind (arith, nat_tests)
@@ -99,7 +100,7 @@ with_fold_from schema queue (Ok lists) = rest_of schema queue.events lists queue
   rest_of schema events lists (Some refused) = refl
 
 -- a fold of no events has the whole outcome before it
-pub begins : (schema : List Table) (f : Fold) (lines : List (List ℕ)) → f.plain.schema.tables ≡ schema → f.plain.lists ≡ empty_lists schema
+pub begins : (schema : List Table) (f : Fold) (lines : List (List ℕ)) → schema_in f.tables ≡ schema → lists_in f.tables ≡ empty_lists schema
     → f.last ≡ 0 → f.ended ≡ false → outcome_of_lines schema lines ≡ outcome_from f lines
 begins schema f lines tables lists last ended =
     with_fold_from schema (queue_of schema 1 false lines) (folded schema (empty_lists schema) (queue_of schema 1 false lines).events)

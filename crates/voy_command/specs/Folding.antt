@@ -23,6 +23,7 @@ use Rattle.voy_command.specs.Stops.{is_refusal}
 use Rattle.voy_command.specs.declared.answer.Answer.{Answer}
 use Rattle.voy_command.specs.declared.answer.Answer.TheVariants as answer
 use Rattle.voy_command.specs.declared.fold.Fold.{Fold}
+use Rattle.voy_contents.specs.Tables.{lists_in, schema_in}
 
 -- why an event does not fit the tables; a cutover fits any
 abbrev pub event_misfit : List Table → List (List (List Value)) → What → Option Misfit
@@ -50,7 +51,7 @@ lines_from schema lists last ended lines =
 
 -- the outcome where these lines follow the fold
 abbrev pub outcome_from : Fold → List (List ℕ) → Outcome
-outcome_from f lines = lines_from f.plain.schema.tables f.plain.lists f.last f.ended lines
+outcome_from f lines = lines_from (schema_in f.tables) (lists_in f.tables) f.last f.ended lines
 
 -- with this line taken, the outcome is that of the lines behind it
 abbrev pub GoesOn : Fold → List ℕ → Fold → Type 0
@@ -63,19 +64,19 @@ Stops old line a =
 
 -- the line states this event, the next one behind the fold
 abbrev pub IsNext : Fold → List ℕ → Event → Type 0
-IsNext old line event = as_next (old.last + 1) old.ended (line_reading old.plain.schema.tables line) ≡ Ok event
+IsNext old line event = as_next (old.last + 1) old.ended (line_reading (schema_in old.tables) line) ≡ Ok event
 
 -- the line states no next event
 abbrev pub IsNoNext : Fold → List ℕ → Answer → Type 0
 IsNoNext old line a =
     (a ≡ answer.NoMemory)
-    ⊎ ((why : LineWhy) × (as_next (old.last + 1) old.ended (line_reading old.plain.schema.tables line) ≡ Err why) × (a ≡ line_refusal (old.last + 1) why))
+    ⊎ ((why : LineWhy) × (as_next (old.last + 1) old.ended (line_reading (schema_in old.tables) line) ≡ Err why) × (a ≡ line_refusal (old.last + 1) why))
 
 -- the event's change is done, and the event counted
 pub record Takes (old : Fold) (event : Event) (new : Fold) : Type 0 where
-  pub fits : event_misfit old.plain.schema.tables old.plain.lists event.what ≡ None
-  pub lists : new.plain.lists ≡ lists_with old.plain.schema.tables old.plain.lists event.what
-  pub schema : new.plain.schema ≡ old.plain.schema
+  pub fits : event_misfit (schema_in old.tables) (lists_in old.tables) event.what ≡ None
+  pub lists : lists_in new.tables ≡ lists_with (schema_in old.tables) (lists_in old.tables) event.what
+  pub schema : schema_in new.tables ≡ schema_in old.tables
   pub last : new.last ≡ event.vsn
   pub ended : new.ended ≡ ends_part event
 
@@ -83,13 +84,13 @@ pub record Takes (old : Fold) (event : Event) (new : Fold) : Type 0 where
 abbrev pub IsNoFit : Fold → Event → Answer → Type 0
 IsNoFit old event a =
     (a ≡ answer.NoMemory)
-    ⊎ ((is_some (event_misfit old.plain.schema.tables old.plain.lists event.what) ≡ true) × (a ≡ answer.Invalid event.vsn))
+    ⊎ ((is_some (event_misfit (schema_in old.tables) (lists_in old.tables) event.what) ≡ true) × (a ≡ answer.Invalid event.vsn))
 
 -- the change does not fit
 abbrev pub IsNoChange : Fold → ℕ → Change → Answer → Type 0
 IsNoChange old vsn c a =
     (a ≡ answer.NoMemory)
-    ⊎ ((is_some (event_misfit old.plain.schema.tables old.plain.lists (what.Change c)) ≡ true) × (a ≡ answer.Invalid vsn))
+    ⊎ ((is_some (event_misfit (schema_in old.tables) (lists_in old.tables) (what.Change c)) ≡ true) × (a ≡ answer.Invalid vsn))
 
 -- the event lines that a reader has not given yet
 abbrev pub unread_lines : LineReader → Files → List (List ℕ)

@@ -5,18 +5,20 @@ ghost use Rattle.voy_tables.specs.Lists.{empty_lists};
 ghost use Rattle.voy_command.specs.DryRun.{line_refusal};
 ghost use Rattle.voy_event.specs.Events.{is_by_source};
 ghost use Rattle.voy_command.specs.Folding.{event_misfit, lists_with};
+ghost use Rattle.voy_contents.specs.Tables.{lists_in, schema_in};
 
 use crate::answer::{Answer, Cause};
 use std::alloc::{AllocError, Global};
+use voy_contents::Tables;
 use voy_event::{Event, LineError, LineWhy, What, read_line};
 use voy_schema::Schema;
-use voy_tables::{Change, Plain, PlainError, Role};
+use voy_tables::{Change, PlainError, Role};
 
 /// The fold of the first events of a segment.
-#[derive(Debug, Drop)]
+#[derive(Drop)]
 pub struct Fold {
     /// The tables after them.
-    pub plain: Plain,
+    pub tables: Tables,
     /// How many events there were, which is the vsn of the last.
     pub last: u64,
     /// Whether the last one was the cutover event.
@@ -29,14 +31,14 @@ impl Fold {
 
     /// No events yet, and no rows.
     pub fn new(alloc: Global, schema: Schema) -> Result<Fold, AllocError>
-        ensures schema { IfOk result (λ fold. fold.plain.schema ≡ schema) }
-        ensures lists { IfOk result (λ fold. fold.plain.lists ≡ empty_lists schema.tables) }
+        ensures schema { IfOk result (λ fold. schema_in fold.tables ≡ schema.tables) }
+        ensures lists { IfOk result (λ fold. lists_in fold.tables ≡ empty_lists schema.tables) }
         ensures last { IfOk result (λ fold. fold.last ≡ 0) }
         ensures ended { IfOk result (λ fold. fold.ended ≡ false) }
     {
-        let plain = Plain::new(alloc, schema)?;
+        let tables = Tables::new(alloc, schema)?;
         Ok(Fold {
-            plain,
+            tables,
             last: 0,
             ended: false,
         })
@@ -48,7 +50,7 @@ impl Fold {
         ensures ok { OnOk result (GoesOn self.old line.now self.new) }
         ensures err { IfErr result (Stops self.old line.now) }
         ensures last { OnOk result (self.new.last ≡ self.old.last + 1) }
-        ensures schema { self.new.plain.schema ≡ self.old.plain.schema }
+        ensures schema { schema_in self.new.tables ≡ schema_in self.old.tables }
     {
         let event = self.next_event(alloc, line)?;
         self.take_event(event)
@@ -58,11 +60,11 @@ impl Fold {
     fn next_event(&self, alloc: Global, line: &[u8]) -> Result<Event, Answer>
         requires { self.now.last < 2 ^ 64 - 1 }
         ensures ok { IfOk result (IsNext self.now line.now) }
-        ensures lawful { IfOk result (IsLawful self.now.plain.schema.tables) }
+        ensures lawful { IfOk result (IsLawful (schema_in self.now.tables)) }
         ensures err { IfErr result (IsNoNext self.now line.now) }
     {
         let number = self.last + 1;
-        match read_line(alloc, &self.plain.schema, line) {
+        match read_line(alloc, self.tables.schema(), line) {
             Ok(event) => {
                 if is_next(&event, number, self.ended) {
                     Ok(event)
@@ -77,10 +79,10 @@ impl Fold {
 
     /// Does the event's change and counts the event.
     fn take_event(&mut self, event: Event) -> Result<(), Answer>
-        requires { IsLawful self.old.plain.schema.tables event }
+        requires { IsLawful (schema_in self.old.tables) event }
         ensures ok { OnOk result (Takes self.old event self.new) }
         ensures err { IfErr result (IsNoFit self.old event) }
-        ensures schema { self.new.plain.schema ≡ self.old.plain.schema }
+        ensures schema { schema_in self.new.tables ≡ schema_in self.old.tables }
     {
         let Event { vsn, role: _, what } = event;
         match what {
@@ -95,15 +97,15 @@ impl Fold {
     }
 
     fn do_change(&mut self, vsn: u64, change: Change) -> Result<(), Answer>
-        requires { is_well_formed self.old.plain.schema.tables change ≡ true }
-        ensures ok { OnOk result (event_misfit self.old.plain.schema.tables self.old.plain.lists (What.Change change) ≡ None) }
-        ensures lists { OnOk result (self.new.plain.lists ≡ lists_with self.old.plain.schema.tables self.old.plain.lists (What.Change change)) }
+        requires { is_well_formed (schema_in self.old.tables) change ≡ true }
+        ensures ok { OnOk result (event_misfit (schema_in self.old.tables) (lists_in self.old.tables) (What.Change change) ≡ None) }
+        ensures lists { OnOk result (lists_in self.new.tables ≡ lists_with (schema_in self.old.tables) (lists_in self.old.tables) (What.Change change)) }
         ensures err { IfErr result (IsNoChange self.old vsn change) }
-        ensures schema { self.new.plain.schema ≡ self.old.plain.schema }
+        ensures schema { schema_in self.new.tables ≡ schema_in self.old.tables }
         ensures last { self.new.last ≡ self.old.last }
         ensures ended { self.new.ended ≡ self.old.ended }
     {
-        match self.plain.apply(change) {
+        match self.tables.apply(&change) {
             Ok(()) => Ok(()),
             Err(PlainError::Misfit(_)) => Err(Answer::Invalid { vsn }),
             Err(PlainError::NoMemory) => Err(Answer::NoMemory),

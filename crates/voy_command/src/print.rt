@@ -1,6 +1,7 @@
 ghost use Rattle.std.specs.Prelude.{◌≡◌, ◌≤◌, ◌++◌, IfErr, OnOk};
 ghost use Rattle.voy_disk.specs.Faults.{Rose};
 ghost use Rattle.voy_disk.specs.Written.{GotFront, grown};
+ghost use Rattle.voy_contents.specs.Tables.{lists_in, schema_in};
 ghost use Rattle.voy_report.specs.Show.{tables_text};
 ghost use Rattle.voy_command.specs.DryRun.{import_line};
 ghost use Rattle.voy_command.specs.Printing.{IsOutputStop, fold_text};
@@ -8,9 +9,10 @@ ghost use Rattle.voy_command.specs.Printing.{IsOutputStop, fold_text};
 use crate::answer::{Answer, append_numbered};
 use crate::fold::Fold;
 use std::alloc::{AllocError, Global};
+use voy_contents::Tables;
 use voy_disk::{Sink, SinkError, write_all};
 use voy_report::table_text;
-use voy_schema::{Bytes, Rows, Table};
+use voy_schema::Bytes;
 
 /// Prints the fold's tables, and then whether the cutover event was reached. After an error a prefix of
 /// that text was printed.
@@ -44,21 +46,18 @@ pub fn print_text<K: Sink>(text: &[u8], out: &mut K) -> Result<(), Answer>
 fn append_fold(alloc: Global, fold: &Fold, to: &mut Bytes) -> Result<(), AllocError>
     ensures { OnOk result (to.new ≡ to.old ++ fold_text fold.now) }
 {
-    let tables = fold.plain.schema.tables.as_slice();
-    append_tables(alloc, tables, fold.plain.lists.as_slice(), to)?;
+    append_tables(alloc, &fold.tables, to)?;
     append_import_line(fold.ended, fold.last, to)?;
     Ok(())
 }
 
-fn append_tables(
-    alloc: Global,
-    tables: &[Table],
-    lists: &[Rows],
-    to: &mut Bytes,
-) -> Result<(), AllocError>
-    ensures { OnOk result (to.new ≡ to.old ++ tables_text tables.now lists.now) }
+/// Appends the parts of all tables. One table's rows are copied at a time.
+fn append_tables(alloc: Global, tables: &Tables, to: &mut Bytes) -> Result<(), AllocError>
+    ensures { OnOk result (to.new ≡ to.old ++ tables_text (schema_in tables.now) (lists_in tables.now)) }
 {
-    for (table, rows) in tables.iter().zip(lists) {
+    let schema = tables.schema();
+    for (place, table) in schema.tables.as_slice().iter().enumerate() {
+        let rows = tables.rows(place as u32)?;
         table_text(alloc, table, rows.as_slice(), to)?;
     }
     Ok(())

@@ -8,3 +8,5 @@ pub mod Numbers
 pub mod Marks
 pub mod Known
 pub mod KnownLaws
+pub mod Tables
+pub mod TableLaws

@@ -19,7 +19,7 @@ use voy_tables::{Change, Misfit};
 use voy_txn::StoreError;
 
 /// Why `change`, whose step this is, does not fit the tables; nothing where it fits.
-fn find_misfit(
+pub(crate) fn find_misfit(
     schema: &Schema,
     tables: &MemTables,
     change: &Change,

@@ -1,13 +1,14 @@
-use Rattle.std.proofs.Common.{◌≡◌, ◌++◌, rules, length, min, sym, ap, ◌∙◌, append-nil}
-use Rattle.std.proofs.lemmas.Slice.Zip.{zip_end}
-use Rattle.voy_command.proofs.TextLaws.{tables_text-ended}
+use Rattle.std.proofs.Common.{◌≡◌, ◌<◌, get_or, length, ◌∙◌}
+use Rattle.voy_contents.specs.TableLaws.{tables_are_clean}
+use Rattle.voy_contents.specs.Tables.{lists_in, schema_in}
+use Rattle.voy_report.specs.ShowLaws.{part_moved, tables_text_turn}
 use Rattle.voy_command.proofs.print.append_tables.Goals as goal
 
-pub returns : goal.returns
-returns c =
-    let count : length c.loop-table.yielded ≡ min (length c.args.tables.now) (length c.args.lists.now) =
-    zip_end c.args.tables.now c.args.lists.now c.loop-table.yielded c.into_iter-table-iterator.result c.loop-table.table-iterator c.next.new.self c.next.result
-    (search rules) (search rules) c.loop-table.yielded_by c.in-None.is (search rules) in
-    sym (append-nil c.loop-table.to)
-    ∙ ap (λ rest. c.loop-table.to ++ rest) (sym (tables_text-ended c.args.tables.now c.args.lists.now (length c.loop-table.yielded) count))
-    ∙ sym c.loop-table.invariant
+pub loop-place-preserved : goal.loop-place-preserved
+loop-place-preserved c =
+    let tables = c.args.tables.now in
+    let same = c.as_slice-table-items.ensures ∙ c.schema.ensures in
+    let within : c.loop-place.place < length (schema_in tables) = rw (← same) c.loop-place-test.true in
+    let is : c.table-item.result ≡ get_or (schema_in tables) c.loop-place.place c.table-item.result = rw (← same) c.table-item.is in
+    let turn = tables_text_turn (schema_in tables) (lists_in tables) c.loop-place.place c.table-item.result (tables_are_clean tables).stand within is in
+    part_moved _ _ _ _ _ _ c.loop-place.invariant turn c.in_ok-table_text.ensures.ok

@@ -1,6 +1,7 @@
 use Rattle.std.proofs.Common.{◌≡◌, ◌<◌, true, get_or, length}
 use Rattle.voy_tables.specs.Standing.{are_tables}
-use Rattle.voy_report.proofs.Texts.{appends_on, part_moved, tables_text_turn}
+use Rattle.voy_report.specs.ShowLaws.{part_moved, tables_text_turn}
+use Rattle.voy_report.proofs.Texts.{appends_on}
 use Rattle.voy_report.proofs.stores.append_store.Goals as goal
 
 pub loop-place-preserved : goal.loop-place-preserved
