@@ -69,9 +69,13 @@ impl<D: Disk> LogStore<JournalLog<D>> {
         }
     }
 
-    /// The disk, as the store's last call left it.
+    /// The disk, as the store's last call left it. What a stop leaves of the store is what its journal reads as.
     pub fn into_disk(self) -> D
-        ensures { result ≡ self.log.disk }
+        ensures disk { result ≡ self.log.disk }
+        ensures images { ⟦<JournalStore<D> as Store>⟧.images self ≡ HasHistory (⟦<JournalStore<D> as Store>⟧.schema self) (ImagesOf (D.files result)) }
+        ensures beside { ⟦<JournalStore<D> as Store>⟧.beside self ≡ files_beside store_name (D.files result) }
+        ensures faults { ⟦<JournalStore<D> as Store>⟧.faults self ≡ D.faults result }
+        ensures lender { ⟦<JournalStore<D> as Store>⟧.lender self ≡ D.lender result }
     {
         let LogStore { contents: _, log } = self;
         let JournalLog {
