@@ -1,11 +1,11 @@
 -- The fields of a payload: what is read of one is what was written of it.
 use Rattle.std.proofs.Common.{◌≡◌, ℕ, ◌+◌, ◌^◌, ◌<◌, ◌≤◌, Bool, true, false, cond, ltb, List, ◌++◌, length, get_or, take, drop, Option, Some, None, refl, sym, ap, subst, ◌∙◌, append_assoc, arith, inl, inr}
-use Rattle.std.specs.Int.{Width, byte_len, from_be_bytes, to_be_bytes, w32}
+use Rattle.std.specs.Int.{Width, byte_len, from_be_bytes, to_be_bytes, w32, w64}
 use Rattle.std.proofs.lemmas.Bool.{cases_lt, le-ltb, ltb-false}
 use Rattle.std.proofs.lemmas.List.{drop_at, get_or-drop, get_or-take, get_or_past, length-append, length-take, take-append-drop, take_at}
-use Rattle.std.proofs.lemmas.Nat.{be_bytes_4, from_be_bytes-to_be_bytes_4}
-use Rattle.voy_txn.specs.Payload.{number, sized}
-use Rattle.voy_txn.specs.Reading.{◌>>=◌, front_at, number_at, part_at, sized_at}
+use Rattle.std.proofs.lemmas.Nat.{be_bytes_4, be_bytes_8, from_be_bytes-to_be_bytes_4, from_be_bytes-to_be_bytes_8}
+use Rattle.voy_txn.specs.Payload.{number, sized, vsn_bytes}
+use Rattle.voy_txn.specs.Reading.{◌>>=◌, front_at, number_at, part_at, sized_at, vsn_at}
 
 -- ---- steps of a reading
 
@@ -65,6 +65,14 @@ four_bytes = record {
   below = λ bytes fit. omega (arith, fit 0, fit 1, fit 2, fit 3);
 }
 
+eight_bytes : IsWide w64 (2 ^ 64)
+eight_bytes = record {
+  len = λ n. refl;
+  back = λ bytes len fit. be_bytes_8 bytes _ len fit refl;
+  again = λ n below. from_be_bytes-to_be_bytes_8 n below;
+  below = λ bytes fit. omega (arith, fit 0, fit 1, fit 2, fit 3, fit 4, fit 5, fit 6, fit 7);
+}
+
 abbrev wide_at : Width → List ℕ → Option (ℕ × List ℕ)
 wide_at w bytes = cond (ltb (length bytes) (byte_len w)) None (Some (from_be_bytes w (take (byte_len w) bytes), drop (byte_len w) bytes))
 
@@ -95,6 +103,14 @@ number_takes bytes (n, rest) fit read = wide_takes w32 (2 ^ 32) four_bytes bytes
 pub number_again : (n : ℕ) (rest : List ℕ) → n < 2 ^ 32 → number_at (number n ++ rest) ≡ Some (n, rest)
 unfolding number number_at
 number_again n rest below = wide_again w32 (2 ^ 32) four_bytes n rest below
+
+pub vsn_takes : (bytes : List ℕ) (x : ℕ × List ℕ) → AreBytes bytes → vsn_at bytes ≡ Some x → Takes bytes (vsn_bytes x.0) x.1 × (x.0 < 2 ^ 64)
+unfolding vsn_bytes vsn_at
+vsn_takes bytes (n, rest) fit read = wide_takes w64 (2 ^ 64) eight_bytes bytes n rest fit read
+
+pub vsn_again : (n : ℕ) (rest : List ℕ) → n < 2 ^ 64 → vsn_at (vsn_bytes n ++ rest) ≡ Some (n, rest)
+unfolding vsn_bytes vsn_at
+vsn_again n rest below = wide_again w64 (2 ^ 64) eight_bytes n rest below
 
 -- ---- texts
 

@@ -3,3 +3,4 @@ pub mod RowLemmas
 pub mod ItemLemmas
 pub mod PayloadLemmas
 pub mod LoopLemmas
+pub mod RangeLemmas

@@ -12,13 +12,13 @@ use Rattle.voy_tables.specs.RowText.{row_lines}
 use Rattle.voy_tables.specs.RowLaws.{RowsReadBack}
 use Rattle.voy_event.specs.Laws.{EventsReadBack}
 use Rattle.voy_event.specs.declared.event.Event.{Event}
-use Rattle.voy_txn.specs.LawfulTxn.{AreLawfulItems, AreLoaded, AreRowsOf, AreWritten, IsLawfulBatch, IsLawfulTxn, IsPayload, max_channels, max_items}
+use Rattle.voy_txn.specs.LawfulTxn.{AreLawfulItems, AreLoaded, AreRowsOf, AreWritten, IsLawfulBatch, IsLawfulEpoch, IsLawfulTxn, IsPayload, max_channels, max_items}
 use Rattle.voy_txn.specs.Laws.{PayloadsReadBack}
-use Rattle.voy_txn.specs.Payload.{batch_kind, events_kind, item_part, load_kind, number, payload_of, rows_part}
-use Rattle.voy_txn.specs.Reading.{◌>>=◌, ascending_items, batch_of, batch_rows, counted_rows, events_of, lists_of, load_of, number_at, part_at, txn_reading}
+use Rattle.voy_txn.specs.Payload.{batch_kind, epoch_kind, events_kind, item_part, load_kind, number, payload_of, rows_part, vsn_bytes}
+use Rattle.voy_txn.specs.Reading.{◌>>=◌, ascending_items, batch_of, batch_rows, counted_rows, epoch_of, events_of, lists_of, load_of, number_at, part_at, txn_reading, vsn_at}
 use Rattle.voy_txn.specs.declared.txn.Txn.{Txn}
-use Rattle.voy_txn.specs.declared.txn.Txn.TheVariants.{Load, Batch, Events}
-use Rattle.voy_txn.proofs.FieldLemmas.{AreBytes, bind_some, number_again, number_takes, passed}
+use Rattle.voy_txn.specs.declared.txn.Txn.TheVariants.{Load, Batch, Events, Epoch}
+use Rattle.voy_txn.proofs.FieldLemmas.{AreBytes, bind_some, number_again, number_takes, passed, vsn_again, vsn_takes}
 use Rattle.voy_txn.proofs.ItemLemmas.{ascending_again, ascending_take, items_take}
 use Rattle.voy_txn.proofs.RowLemmas.{counted_again, lists_again, lists_take, loaded_length, rows_part_again, rows_take}
 
@@ -120,6 +120,27 @@ events_take schema fields txn fit read =
     chosen true o x e = (refl, e)
     chosen false o x e = absurd cc
 
+epoch_takes : (schema : List Table) (fields : List ℕ) (txn : Txn) → AreBytes fields → epoch_of fields ≡ Some txn → IsRead schema epoch_kind fields txn
+unfolding epoch_of payload_of
+epoch_takes schema fields txn fit read =
+    let tested = λ (channels : ℕ) (rest : List ℕ). leb 1 channels && leb channels max_channels && eqb (length rest) 0 in
+    let vsn = bind_some (vsn_at fields) (λ vsn. number_at vsn.1 >>= λ channels. cond (tested channels.0 channels.1) (Some (Epoch vsn.0 channels.0)) None) txn read in
+    let channels = bind_some (number_at vsn.0.1) (λ channels. cond (tested channels.0 channels.1) (Some (Epoch vsn.0.0 channels.0)) None) txn vsn.2 in
+    let test = passed (tested channels.0.0 channels.0.1) (Epoch vsn.0.0 channels.0.0) txn channels.2 in
+    let parts = and_parts (leb 1 channels.0.0 && leb channels.0.0 max_channels) (eqb (length channels.0.1) 0) test.0 in
+    let bounds = and_parts (leb 1 channels.0.0) (leb channels.0.0 max_channels) parts.0 in
+    let first = vsn_takes fields vsn.0 fit vsn.1 in
+    let second = number_takes vsn.0.1 channels.0 first.0.fit channels.1 in
+    let nothing : channels.0.1 ≡ [] = nil_from_length channels.0.1 (eqb-true _ _ parts.1) in
+    let text : fields ≡ vsn_bytes vsn.0.0 ++ number channels.0.0 =
+    first.0.parts ∙ ap (λ (x : List ℕ). vsn_bytes vsn.0.0 ++ x)
+    (second.0.parts ∙ ap (λ (x : List ℕ). number channels.0.0 ++ x) nothing ∙ append-nil (number channels.0.0)) in
+    let made : IsRead schema epoch_kind fields (Epoch vsn.0.0 channels.0.0) = record {
+      lawful = record { wide = first.1; some = leb-true _ _ bounds.0; most = leb-true _ _ bounds.1 };
+      text = ap (λ (x : List ℕ). epoch_kind ∷ x) text;
+    } in
+    subst (IsRead schema epoch_kind fields) test.1 made
+
 AreBytes-behind : (b : ℕ) (bytes : List ℕ) → AreBytes (b ∷ bytes) → AreBytes bytes
 AreBytes-behind b bytes fit i = fit (suc i)
 
@@ -128,27 +149,33 @@ pub reading_takes : RowsReadBack → (schema : List Table) (bytes : List ℕ) (t
     → txn_reading schema bytes ≡ Some txn → IsPayload schema bytes txn
 unfolding txn_reading
 reading_takes by_rows schema [] txn lawful fit read = absurd cc
-reading_takes by_rows schema (kind ∷ fields) txn lawful fit read = by_load (eqb kind load_kind) refl read where
-  rest : AreBytes fields
-  rest = AreBytes-behind kind fields fit
+reading_takes by_rows schema (kind ∷ fields) txn lawful fit read =
+    by_kind load_kind (load_of schema fields) (or_batch (or_events (or_epoch None))) (load_takes by_rows schema fields txn lawful rest)
+    (by_kind batch_kind (batch_of schema fields) (or_events (or_epoch None)) (batch_takes by_rows schema fields txn lawful rest)
+    (by_kind events_kind (events_of schema fields) (or_epoch None) (events_take schema fields txn rest)
+    (by_kind epoch_kind (epoch_of fields) None (epoch_takes schema fields txn rest) (λ none. absurd (nothing none))))) read
+  where
+    or_epoch : Option Txn → Option Txn
+    or_epoch = cond (eqb kind epoch_kind) (epoch_of fields)
 
-  as_payload : (k : ℕ) → eqb kind k ≡ true → IsRead schema k fields txn → IsPayload schema (kind ∷ fields) txn
-  as_payload k is found = record { lawful = found.lawful; text = ap (λ n. n ∷ fields) (eqb-true kind k is) ∙ found.text }
+    or_events : Option Txn → Option Txn
+    or_events = cond (eqb kind events_kind) (events_of schema fields)
 
-  by_events : (b : Bool) → eqb kind events_kind ≡ b → cond b (events_of schema fields) None ≡ Some txn → IsPayload schema (kind ∷ fields) txn
-  by_events true is e = as_payload events_kind is (events_take schema fields txn rest e)
-  by_events false is e = absurd cc
+    or_batch : Option Txn → Option Txn
+    or_batch = cond (eqb kind batch_kind) (batch_of schema fields)
 
-  by_batch : (b : Bool) → eqb kind batch_kind ≡ b
-      → cond b (batch_of schema fields) (cond (eqb kind events_kind) (events_of schema fields) None) ≡ Some txn → IsPayload schema (kind ∷ fields) txn
-  by_batch true is e = as_payload batch_kind is (batch_takes by_rows schema fields txn lawful rest e)
-  by_batch false is e = by_events (eqb kind events_kind) refl e
+    rest : AreBytes fields
+    rest = AreBytes-behind kind fields fit
 
-  by_load : (b : Bool) → eqb kind load_kind ≡ b
-      → cond b (load_of schema fields) (cond (eqb kind batch_kind) (batch_of schema fields) (cond (eqb kind events_kind) (events_of schema fields) None)) ≡ Some txn
-      → IsPayload schema (kind ∷ fields) txn
-  by_load true is e = as_payload load_kind is (load_takes by_rows schema fields txn lawful rest e)
-  by_load false is e = by_batch (eqb kind batch_kind) refl e
+    nothing : None ≡ Some txn → ⊥
+    nothing none = cc
+
+    by_kind : (k : ℕ) (read others : Option Txn) → (read ≡ Some txn → IsRead schema k fields txn) → (others ≡ Some txn → IsPayload schema (kind ∷ fields) txn)
+        → cond (eqb kind k) read others ≡ Some txn → IsPayload schema (kind ∷ fields) txn
+    by_kind k read others takes behind = go (eqb kind k) refl where
+      go : (b : Bool) → eqb kind k ≡ b → cond b read others ≡ Some txn → IsPayload schema (kind ∷ fields) txn
+      go true is e = let found = takes e in record { lawful = found.lawful; text = ap (λ n. n ∷ fields) (eqb-true kind k is) ∙ found.text }
+      go false is e = behind e
 
 -- ---- a payload is read
 
@@ -200,12 +227,21 @@ events_again by_lines schema channel items lawful has =
       ascending_again by_lines schema items lawful has.each has.ascend,
     ) refl
 
+epoch_again : (vsn channels : ℕ) → IsLawfulEpoch vsn channels → epoch_of (vsn_bytes vsn ++ number channels) ≡ Some (Epoch vsn channels)
+unfolding epoch_of
+epoch_again vsn channels has =
+    let below : channels < 2 ^ 32 = omega (arith, has.most) in
+    let whole : number channels ≡ number channels ++ [] = sym (append-nil (number channels)) in
+    let read : number_at (number channels) ≡ Some (channels, []) = ap number_at whole ∙ number_again channels [] below in
+    rw (vsn_again vsn (number channels) has.wide, read, le-leb 1 channels has.some, le-leb channels max_channels has.most) refl
+
 -- the payload of a lawful transaction reads as it
 pub payload_again : RowsReadBack → EventsReadBack → (schema : List Table) (txn : Txn) → is_lawful schema ≡ true → IsLawfulTxn schema txn → txn_reading schema (payload_of schema txn) ≡ Some txn
 unfolding payload_of txn_reading
 payload_again by_rows by_lines schema (Load lists) lawful has = load_again by_rows schema lists lawful has
 payload_again by_rows by_lines schema (Batch table batch rows) lawful has = batch_again by_rows schema table batch rows lawful has
 payload_again by_rows by_lines schema (Events channel items) lawful has = events_again by_lines schema channel items lawful has
+payload_again by_rows by_lines schema (Epoch vsn channels) lawful has = epoch_again vsn channels has
 
 -- bytes that are a payload read as its transaction
 pub reading_again : RowsReadBack → EventsReadBack → (schema : List Table) (bytes : List ℕ) (txn : Txn) → is_lawful schema ≡ true → IsPayload schema bytes txn → txn_reading schema bytes ≡ Some txn

@@ -22,7 +22,7 @@ use Rattle.voy_tables.specs.Folds.{first_misfit, first_of}
 use Rattle.voy_txn.specs.LawfulTxn.{IsLawfulTxn}
 use Rattle.voy_txn.specs.LoadLaws.{items_are_well_formed, load_sets_rows}
 use Rattle.voy_txn.specs.declared.txn.Txn.{Txn}
-use Rattle.voy_txn.specs.declared.txn.Txn.TheVariants.{Load, Batch, Events}
+use Rattle.voy_txn.specs.declared.txn.Txn.TheVariants.{Load, Batch, Events, Epoch}
 
 -- where no item of these has a misfit, the first has none
 pub first_fits : (found : Option Misfit) (at : ℕ) (later : Option (ℕ × Misfit)) → first_of found at later ≡ None → (found ≡ None) × (later ≡ None)
@@ -95,3 +95,4 @@ txn_keeps_clean lists_law misfit_law no_rows_law schema lists (Batch table batch
     changes_keep_clean lists_law misfit_law schema lists 0 (items_of (Batch table batch rows)) are (items_are_well_formed schema (Batch table batch rows) lawful) none
 txn_keeps_clean lists_law misfit_law no_rows_law schema lists (Events channel items) lawful are none =
     changes_keep_clean lists_law misfit_law schema lists 0 (items_of (Events channel items)) are (items_are_well_formed schema (Events channel items) lawful) none
+txn_keeps_clean lists_law misfit_law no_rows_law schema lists (Epoch vsn channels) lawful are none = are

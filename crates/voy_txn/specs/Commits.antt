@@ -1,5 +1,6 @@
 -- What a store asks of a transaction, and what it answers and keeps.
-use Rattle.std.specs.Prelude.{◌≡◌, ◌⊎◌, ℕ, ◌++◌, Bool, true, false, List, [], ◌∷◌, Option, Some, None, not, option_map}
+use Rattle.std.specs.Prelude.{◌≡◌, ◌⊎◌, ℕ, ◌++◌, Bool, true, false, List, [], ◌∷◌, Option, Some, None, nat_le, not, option_map}
+use Rattle.std.specs.List.{list_all, range_with_len}
 use Rattle.voy_schema.specs.declared.table.Table.{Table}
 use Rattle.voy_schema.specs.declared.value.Value.{Value}
 use Rattle.voy_tables.specs.Lists.{look}
@@ -9,21 +10,27 @@ use Rattle.voy_tables.specs.declared.change.Misfit.{Misfit}
 use Rattle.voy_txn.specs.Contents.{Contents}
 use Rattle.voy_txn.specs.History.{History}
 use Rattle.voy_txn.specs.Items.{violation_of}
-use Rattle.voy_txn.specs.LawfulTxn.{ascend_above}
+use Rattle.voy_txn.specs.LawfulTxn.{ascend_above, max_channels}
 use Rattle.voy_txn.specs.declared.store_error.StoreError.{StoreError}
 use Rattle.voy_txn.specs.declared.store_error.StoreError.TheVariants.{Fault, Violation, NoMemory}
 use Rattle.voy_txn.specs.declared.txn.Txn.{Txn}
-use Rattle.voy_txn.specs.declared.txn.Txn.TheVariants.{Load, Batch, Events}
+use Rattle.voy_txn.specs.declared.txn.Txn.TheVariants.{Load, Batch, Events, Epoch}
 
 -- the most bytes of a payload that a store takes
 abbrev pub max_payload_bytes : ℕ
 max_payload_bytes = 1073741824
 
--- a store that knows this may take the one load, a batch that has no marker, or events whose vsns ascend from above that of their channel
+-- no channel is done further than to this vsn
+abbrev pub is_none_above : (ℕ → ℕ) → ℕ → Bool
+is_none_above vsns vsn = list_all (λ channel. nat_le (vsns channel) vsn) (range_with_len 0 max_channels)
+
+-- a store that knows this may take the one load, a batch that has no marker, events whose vsns ascend from above that of
+-- their channel, or an epoch whose vsn is not below that of any channel
 abbrev pub is_next : Contents → Txn → Bool
 is_next contents (Load tables) = not contents.loaded
 is_next contents (Batch table batch rows) = not (contents.has_batch table batch)
 is_next contents (Events channel items) = ascend_above (contents.vsns channel) items
+is_next contents (Epoch vsn channels) = is_none_above contents.vsns vsn
 
 -- the transaction where its items fit, one after the other; nothing where they do not
 abbrev pub if_none : Option (ℕ × Misfit) → Txn → List Txn

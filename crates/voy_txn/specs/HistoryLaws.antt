@@ -11,7 +11,7 @@ use Rattle.voy_schema.specs.declared.table.Table.{Table}
 use Rattle.voy_tables.specs.declared.change.Misfit.{Misfit}
 use Rattle.voy_txn.specs.Commits.{AddsTxns, if_it_fits, if_none}
 use Rattle.voy_txn.specs.Contents.{Contents, contents_after, contents_of, is_batch}
-use Rattle.voy_txn.specs.History.{History, batch_of, batch_rows_after, changes_after, batches_of, is_load, is_loaded, tables_after, tables_of, vsns_after, vsns_of}
+use Rattle.voy_txn.specs.History.{History, batch_of, batch_rows_after, batches_of, changes_after, channels_after, channels_of, is_load, is_loaded, tables_after, tables_of, vsns_after, vsns_of}
 use Rattle.voy_txn.specs.Items.{violation_of}
 use Rattle.voy_txn.specs.declared.txn.Txn.{Txn}
 
@@ -25,6 +25,9 @@ tables_grow schema history txn = fold_more (tables_after schema) _ history txn
 
 pub vsns_grow : (history : History) (txn : Txn) → vsns_of (history ++ txn ∷ []) ≡ vsns_after (vsns_of history) txn
 vsns_grow history txn = fold_more vsns_after _ history txn
+
+pub channels_grow : (history : History) (txn : Txn) → channels_of (history ++ txn ∷ []) ≡ channels_after (channels_of history) txn
+channels_grow history txn = fold_more channels_after _ history txn
 
 or_nothing : (b : Bool) → (b || false) ≡ b
 or_nothing true = refl
@@ -55,6 +58,7 @@ pub contents_grow : (schema : List Table) (history : History) (txn : Txn)
 contents_grow schema history txn = λ i. record {
   tables = tables_grow schema history txn i;
   vsns = vsns_grow history txn i;
+  channels = channels_grow history txn i;
   has_batch = λ table batch. batches_grow history txn table batch i;
   loaded = loaded_grow history txn i;
   batch_rows = fold_more batch_rows_after (λ _. 0) history txn i;

@@ -13,7 +13,7 @@ use Rattle.voy_event.specs.LineText.{line_text}
 use Rattle.voy_event.specs.declared.event.Event.{Event}
 use Rattle.voy_txn.specs.Payload.{payload_of}
 use Rattle.voy_txn.specs.declared.txn.Txn.{Txn}
-use Rattle.voy_txn.specs.declared.txn.Txn.TheVariants.{Load, Batch, Events}
+use Rattle.voy_txn.specs.declared.txn.Txn.TheVariants.{Load, Batch, Events, Epoch}
 
 -- rows of a table whose texts are within their limit; four bytes can state how many they are, and how many bytes they take
 pub record AreWritten (t : Table) (rows : List (List Value)) : Type 0 where
@@ -64,11 +64,18 @@ pub record AreLawfulItems (schema : List Table) (channel : ℕ) (items : List Ev
   pub ascend : ascend_above 0 items ≡ true
   pub each : AllByRecursion (IsLawfulItem schema) items
 
+-- a vsn of eight bytes, and 1 to 512 channels
+pub record IsLawfulEpoch (vsn channels : ℕ) : Type 0 where
+  pub wide : vsn < 2 ^ 64
+  pub some : 1 ≤ channels
+  pub most : channels ≤ max_channels
+
 -- a transaction that a store of this schema may be given
 abbrev pub IsLawfulTxn : List Table → Txn → Type 0
 IsLawfulTxn schema (Load tables) = AreLoaded schema tables
 IsLawfulTxn schema (Batch table batch rows) = IsLawfulBatch schema table batch rows
 IsLawfulTxn schema (Events channel items) = AreLawfulItems schema channel items
+IsLawfulTxn schema (Epoch vsn channels) = IsLawfulEpoch vsn channels
 
 -- the bytes are the payload of this lawful transaction
 pub record IsPayload (schema : List Table) (bytes : List ℕ) (txn : Txn) : Type 0 where

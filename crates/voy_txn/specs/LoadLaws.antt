@@ -30,7 +30,7 @@ use Rattle.voy_txn.specs.Items.{inserts_from, items_of}
 use Rattle.voy_event.specs.Events.{change_in}
 use Rattle.voy_txn.specs.LawfulTxn.{AreLoaded, AreRowsOf, IsLawfulItem, IsLawfulTxn}
 use Rattle.voy_txn.specs.declared.txn.Txn.{Txn}
-use Rattle.voy_txn.specs.declared.txn.Txn.TheVariants.{Load, Batch, Events}
+use Rattle.voy_txn.specs.declared.txn.Txn.TheVariants.{Load, Batch, Events, Epoch}
 
 key_order : IsTotalOrder key_cmp
 key_order = lists_total nat_list_cmp_total
@@ -171,3 +171,4 @@ pub items_are_well_formed : (schema : List Table) (txn : Txn) → IsLawfulTxn sc
 items_are_well_formed schema (Load tables) lawful = loaded_inserts schema [] schema tables 0 refl refl lawful
 items_are_well_formed schema (Batch table batch rows) lawful = batch_inserts schema table rows (slice_get schema table) refl lawful.of_table
 items_are_well_formed schema (Events channel items) lawful = event_changes schema items lawful.each
+items_are_well_formed schema (Epoch vsn channels) lawful = refl

@@ -1,6 +1,6 @@
 -- A payload read from its front, field by field. `IsPayload` says what comes of it; this is how the parts of the reader say it.
 use Rattle.std.specs.Prelude.{◌≡◌, ℕ, zero, suc, ◌==◌, ◌&&◌, List, [], ◌∷◌, Option, Some, None, Result, Ok, Err, length, take, drop, nat_le, nat_lt, slice_get, if◌then◌else◌}
-use Rattle.std.specs.Int.{from_be_bytes, w32}
+use Rattle.std.specs.Int.{from_be_bytes, w32, w64}
 use Rattle.std.specs.Result.{result_ok}
 use Rattle.std.specs.Str.{bytes_eq}
 use Rattle.voy_schema.specs.declared.table.Table.{Table}
@@ -12,9 +12,9 @@ use Rattle.voy_event.specs.LineText.{line_text}
 use Rattle.voy_event.specs.declared.event.Event.{Event}
 use Rattle.voy_txn.specs.LawfulTxn.{ascend_above, max_channels, max_items}
 use Rattle.voy_event.specs.Events.{is_change}
-use Rattle.voy_txn.specs.Payload.{batch_kind, events_kind, load_kind}
+use Rattle.voy_txn.specs.Payload.{batch_kind, epoch_kind, events_kind, load_kind}
 use Rattle.voy_txn.specs.declared.txn.Txn.{Txn}
-use Rattle.voy_txn.specs.declared.txn.Txn.TheVariants.{Load, Batch, Events}
+use Rattle.voy_txn.specs.declared.txn.Txn.TheVariants.{Load, Batch, Events, Epoch}
 use Rattle.voy_txn.specs.declared.unread.Unread.{Unread}
 use Rattle.voy_txn.specs.declared.unread.Unread.TheVariants.{NoPayload, NoMemory}
 
@@ -36,6 +36,10 @@ Gives view (Err e) reading = Fails e reading
 -- a number, and what follows it
 unfoldable pub number_at : List ℕ → Option (ℕ × List ℕ)
 number_at bytes = if nat_lt (length bytes) 4 then None else Some (from_be_bytes w32 (take 4 bytes), drop 4 bytes)
+
+-- a vsn, and what follows it
+unfoldable pub vsn_at : List ℕ → Option (ℕ × List ℕ)
+vsn_at bytes = if nat_lt (length bytes) 8 then None else Some (from_be_bytes w64 (take 8 bytes), drop 8 bytes)
 
 -- so many bytes, and what follows them
 unfoldable pub front_at : ℕ → List ℕ → Option (List ℕ × List ℕ)
@@ -124,6 +128,12 @@ events_of schema bytes = do
   count ← number_at channel.1
   if nat_lt channel.0 max_channels && nat_le 1 count.0 && nat_le count.0 max_items then (ascending_items schema count.0 count.1 >>= λ items. Some (Events channel.0 items)) else None
 
+unfoldable pub epoch_of : List ℕ → Option Txn
+epoch_of bytes = do
+  vsn ← vsn_at bytes
+  channels ← number_at vsn.1
+  if nat_le 1 channels.0 && nat_le channels.0 max_channels && (length channels.1 == 0) then Some (Epoch vsn.0 channels.0) else None
+
 -- the transaction whose payload the bytes are
 unfoldable pub txn_reading : List Table → List ℕ → Option Txn
 txn_reading schema [] = None
@@ -131,4 +141,5 @@ txn_reading schema (kind ∷ fields) =
     if kind == load_kind then load_of schema fields
     else if kind == batch_kind then batch_of schema fields
     else if kind == events_kind then events_of schema fields
+    else if kind == epoch_kind then epoch_of fields
     else None

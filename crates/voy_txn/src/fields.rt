@@ -1,8 +1,8 @@
 ghost use Rattle.std.specs.Prelude.{◌≡◌, ◌++◌, ◌<◌, ◌^◌, length, OnErr, OnOk};
-ghost use Rattle.voy_txn.specs.Payload.{number, sized};
-ghost use Rattle.voy_txn.specs.Reading.{Gives, front_at, number_at, part_at, sized_at};
+ghost use Rattle.voy_txn.specs.Payload.{number, sized, vsn_bytes};
+ghost use Rattle.voy_txn.specs.Reading.{Gives, front_at, number_at, part_at, sized_at, vsn_at};
 
-use crate::limits::NUMBER_BYTES;
+use crate::limits::{NUMBER_BYTES, VSN_BYTES};
 use crate::unread::Unread;
 use std::alloc::AllocError;
 use voy_schema::Bytes;
@@ -18,6 +18,21 @@ pub(crate) fn number_of(bytes: &[u8]) -> Result<(u32, &[u8]), Unread>
     let (front, rest) = bytes.split_at(NUMBER_BYTES);
     let number = u32::from_be_bytes([front[0], front[1], front[2], front[3]]);
     Ok((number, rest))
+}
+
+/// The vsn in front of `bytes`, and what follows it.
+#[tactic(auto, unfolding(crate::specs::Reading::vsn_at))]
+pub(crate) fn vsn_of(bytes: &[u8]) -> Result<(u64, &[u8]), Unread>
+    ensures { Gives (λ x. (x.0, x.1.now)) result (vsn_at bytes.now) }
+{
+    if bytes.len() < VSN_BYTES {
+        return Err(Unread::NoPayload);
+    }
+    let (front, rest) = bytes.split_at(VSN_BYTES);
+    let vsn = u64::from_be_bytes([
+        front[0], front[1], front[2], front[3], front[4], front[5], front[6], front[7],
+    ]);
+    Ok((vsn, rest))
 }
 
 /// So many bytes in front of `bytes`, and what follows them.
@@ -59,6 +74,15 @@ pub(crate) fn push_number(to: &mut Bytes, value: u32) -> Result<(), AllocError>
     ensures err { OnErr result (to.new ≡ to.old) }
 {
     to.append_slice(&value.to_be_bytes())
+}
+
+/// Appends a vsn. After an error `to` is as before.
+#[tactic(auto, unfolding(crate::specs::Payload::vsn_bytes))]
+pub(crate) fn push_vsn(to: &mut Bytes, vsn: u64) -> Result<(), AllocError>
+    ensures ok { OnOk result (to.new ≡ to.old ++ vsn_bytes vsn) }
+    ensures err { OnErr result (to.new ≡ to.old) }
+{
+    to.append_slice(&vsn.to_be_bytes())
 }
 
 /// Appends a text behind the number of its bytes.

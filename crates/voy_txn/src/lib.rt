@@ -1,8 +1,8 @@
 //! Transactions, the bytes that a store keeps of them, and the trait of stores.
 //!
 //! A [`Txn`] is one step of a store: the one load of all tables, a batch of snapshot rows with its
-//! marker, or a run of changes of one channel. [`write_txn`] appends its payload, and [`read_txn`] gives
-//! the transaction whose payload bytes are.
+//! marker, a run of changes of one channel, or an epoch, from which on there is another number of channels.
+//! [`write_txn`] appends its payload, and [`read_txn`] gives the transaction whose payload bytes are.
 //!
 //! The clause to believe is `IsPayload` of `specs/LawfulTxn.antt`: the transaction is lawful for the
 //! schema, and the bytes are exactly `payload_of` it (`specs/Payload.antt`). What is read is such a

@@ -1,11 +1,13 @@
 ghost use Rattle.std.specs.Prelude.{◌≡◌, IfNone, IfOk, IfSome};
 ghost use Rattle.voy_txn.specs.LawfulTxn.{IsPayload};
-ghost use Rattle.voy_txn.specs.Reading.{Gives, batch_of, events_of, load_of, txn_reading};
+ghost use Rattle.voy_txn.specs.Reading.{Gives, batch_of, epoch_of, events_of, load_of, txn_reading};
 ghost use Rattle.voy_txn.specs.declared.txn.Txn.{Txn as Transaction};
 
-use crate::fields::number_of;
+use crate::fields::{number_of, vsn_of};
 use crate::items::ascending_items;
-use crate::limits::{BATCH_KIND, EVENTS_KIND, LOAD_KIND, MAX_CHANNELS, MAX_TXN_ITEMS};
+use crate::limits::{
+    BATCH_KIND, EPOCH_KIND, EVENTS_KIND, LOAD_KIND, MAX_CHANNELS, MAX_TXN_ITEMS,
+};
 use crate::rows::{batch_rows, lists_of};
 use crate::txn::Txn;
 use crate::unread::Unread;
@@ -45,6 +47,8 @@ fn txn_of(alloc: Global, schema: &Schema, bytes: &[u8]) -> Result<Txn, Unread>
         batch_of(alloc, schema, fields)
     } else if *kind == EVENTS_KIND {
         events_of(alloc, schema, fields)
+    } else if *kind == EPOCH_KIND {
+        epoch_of(fields)
     } else {
         Err(Unread::NoPayload)
     }
@@ -90,4 +94,17 @@ fn events_of(alloc: Global, schema: &Schema, bytes: &[u8]) -> Result<Txn, Unread
     }
     let items = ascending_items(alloc, schema, count, rest)?;
     Ok(Txn::Events { channel, items })
+}
+
+/// The epoch of these fields.
+#[tactic(auto, unfolding(crate::specs::Reading::epoch_of))]
+fn epoch_of(bytes: &[u8]) -> Result<Txn, Unread>
+    ensures { Gives (λ txn. txn) result (epoch_of bytes.now) }
+{
+    let (vsn, rest) = vsn_of(bytes)?;
+    let (channels, rest) = number_of(rest)?;
+    if channels == 0 || channels > MAX_CHANNELS || !rest.is_empty() {
+        return Err(Unread::NoPayload);
+    }
+    Ok(Txn::Epoch { vsn, channels })
 }

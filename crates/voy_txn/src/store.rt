@@ -2,6 +2,7 @@ ghost use base.Fml.{GName};
 ghost use Rattle.std.specs.Prelude.{◌≡◌, ◌≤◌, ℕ, Bool, true, List, [], ◌∷◌, Option, None, Some, length, slice_get, IfErr, IfOk, OnErr, OnOk};
 ghost use Rattle.std.specs.Option.{option_copied};
 ghost use Rattle.voy_disk.specs.Faults.{HasCause};
+ghost use Rattle.voy_disk.specs.Files.{Files};
 ghost use Rattle.voy_disk.specs.Steps.{DoesAll, Follows, LeavesPrefix, Same, StaysTold};
 ghost use Rattle.voy_schema.specs.declared.table.Table.{Table};
 ghost use Rattle.voy_tables.specs.Lists.{look, rows_in};
@@ -39,6 +40,9 @@ pub trait Store {
     /// tells nothing there is none of them.
     ghost images: { Self → Option History → Type 0 };
 
+    /// The files of its disk that are not its own, where the disk tells them; none for a store that has no disk.
+    ghost beside: { Self → Option Files };
+
     /// How many faults there were, in 64 bits; the count stays at its type's end.
     ghost faults: { Self → ℕ };
 
@@ -57,9 +61,10 @@ pub trait Store {
 
     /// Takes a transaction: its rows and its mark, or its rows and its marker, go in together.
     ///
-    /// A load puts its rows in place of all that stand; channels and batches go on as they are. `Violation` has the first item that does
-    /// not fit the tables with the items before it done: the items of a load are its rows, table by table, into
-    /// empty tables; those of a batch its rows; those of events their changes. After `Violation` nothing changed.
+    /// A load puts its rows in place of all that stand; channels and batches go on as they are. An epoch has no items.
+    /// `Violation` has the first item that does not fit the tables with the items before it done: the items of a load
+    /// are its rows, table by table, into empty tables; those of a batch its rows; those of events their changes. After
+    /// `Violation` nothing changed.
     /// After `Fault` the store is not live, and a stop leaves the old history, or it and this
     /// transaction. After `NoMemory` it is live and nothing changed, or it is as after `Fault`.
     fn commit(&mut self, txn: &Txn) -> Result<(), StoreError>
@@ -81,12 +86,18 @@ pub trait Store {
         ensures all { DoesAll AddsTxns (txn.now ∷ []) result (images self.old) (images self.new) }
         ensures prefix { LeavesPrefix AddsTxns (if_it_fits (schema self.old) (contents self.old) txn.now) (images self.old) (images self.new) }
         ensures told { StaysTold (images self.old) (images self.new) }
+        ensures beside { beside self.new ≡ beside self.old }
         ensures cause { HasCause StoreError.Fault (faults self.old) (faults self.new) result }
         ensures lender { lender self.new ≡ lender self.old };
 
-    /// The vsn up to which the channel is done: that of its last item, 0 where it has none.
+    /// The vsn up to which the channel is done: that of its last item since the last epoch, or else that of the
+    /// epoch, 0 where there is neither.
     fn last(&self, channel: u32) -> u64
         ensures { result ≡ (contents self.now).vsns channel };
+
+    /// How many channels the last epoch said. `None` where there is no epoch.
+    fn channels(&self) -> Option<u32>
+        ensures { result ≡ (contents self.now).channels };
 
     /// Whether the batch of this number of the table was taken.
     fn has_batch(&self, table: u32, number: u32) -> bool

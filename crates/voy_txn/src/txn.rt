@@ -12,6 +12,9 @@ pub enum Txn {
     Batch { table: u32, number: u32, rows: Rows },
     /// 1 to [`MAX_TXN_ITEMS`](crate::MAX_TXN_ITEMS) changes of one channel, by ascending vsn.
     Events { channel: u32, items: Events },
+    /// From here on there are so many channels, from 1 to [`MAX_CHANNELS`](crate::MAX_CHANNELS), each of them done
+    /// up to this vsn.
+    Epoch { vsn: u64, channels: u32 },
 }
 
 impl Copies for Txn {
@@ -40,6 +43,10 @@ impl Copies for Txn {
                     items,
                 })
             }
+            Txn::Epoch { vsn, channels } => Ok(Txn::Epoch {
+                vsn: *vsn,
+                channels: *channels,
+            }),
         }
     }
 }

@@ -3,9 +3,9 @@ ghost use Rattle.std.specs.List.{flat_map};
 ghost use Rattle.voy_txn.specs.LawfulTxn.{AreLoaded, IsLawfulTxn};
 ghost use Rattle.voy_txn.specs.Payload.{payload_of, rows_part};
 
-use crate::fields::push_number;
+use crate::fields::{push_number, push_vsn};
 use crate::items::push_items;
-use crate::limits::{BATCH_KIND, EVENTS_KIND, LOAD_KIND};
+use crate::limits::{BATCH_KIND, EPOCH_KIND, EVENTS_KIND, LOAD_KIND};
 use crate::rows::push_rows;
 use crate::txn::Txn;
 use std::alloc::{AllocError, Global};
@@ -54,6 +54,11 @@ fn payload_of(alloc: Global, schema: &Schema, txn: &Txn) -> Result<Bytes, AllocE
             push_number(&mut payload, *channel)?;
             push_number(&mut payload, items.len() as u32)?;
             push_items(alloc, schema, &mut payload, items.as_slice())?;
+        }
+        Txn::Epoch { vsn, channels } => {
+            payload.push(EPOCH_KIND)?;
+            push_vsn(&mut payload, *vsn)?;
+            push_number(&mut payload, *channels)?;
         }
     }
     Ok(payload)
