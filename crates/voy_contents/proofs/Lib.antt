@@ -2,6 +2,7 @@ mod SlotLemmas
 mod RowLemmas
 mod TupleLemmas
 mod IndexLemmas
+mod ListLemmas
 mod PlaceLemmas
 mod MemTableLemmas
 mod SwapLemmas
@@ -11,6 +12,7 @@ mod DoingLemmas
 mod PreparingLemmas
 mod ApplyingLemmas
 mod ItemLemmas
+mod VsnLemmas
 mod MarkLemmas
 mod LookingLemmas
 mod WidthLemmas

@@ -3,27 +3,18 @@ use Rattle.std.proofs.Common.{◌≡◌, ◌+◌, ◌-◌, ◌<◌, ◌≤◌, �
 use Rattle.std.proofs.lemmas.Bool.{and_from, and_parts, eqb-false, eqb-true, eq-eqb, false_from_ne_true, ltb-true}
 use Rattle.std.proofs.lemmas.List.{drop_all}
 use Rattle.std.proofs.lemmas.List.Sums.{sum_by-append}
-use Rattle.std.proofs.lemmas.Map.Lookups.{exact_unsigned}
-use Rattle.std.proofs.lemmas.Option.{none-some, same_Some}
-use Rattle.std.specs.BTreeMap.{is_at}
-use Rattle.std.specs.Cmp.{nat_cmp_total, unsigned_tied}
+use Rattle.std.proofs.lemmas.Option.{none-some, same_Some, slice_get_within}
 use Rattle.std.specs.List.{cons_option, filter_map}
-use Rattle.std.specs.Map.{lookup, set_value}
-use Rattle.std.specs.Option.{IsSome, unwrap_or}
-use Rattle.std.specs.Ordering.{nat_cmp}
+use Rattle.std.specs.Option.{unwrap_or}
 use Rattle.std.specs.Prelude.{◌&&◌, ◌||◌, ◌==◌, ◌^◌, cond, count_by, nat_eq, nat_lt, slice_get, slice_set, if◌then◌else◌}
 use Rattle.voy_event.specs.declared.event.Event.{Event}
 use Rattle.voy_schema.specs.declared.table.Table.{Table}
 use Rattle.voy_schema.specs.declared.value.Value.{Value}
-use Rattle.voy_contents.proofs.DoingLemmas.{drop_at}
-use Rattle.voy_contents.proofs.IndexLemmas.{get_set, length_set}
-use Rattle.voy_contents.proofs.MemTableLemmas.{slot_there}
-use Rattle.voy_contents.proofs.PreparingLemmas.{get_push, length_push}
-use Rattle.voy_contents.proofs.SlotLemmas.{lookup_set, lookup_slot, or_else}
+use Rattle.voy_contents.proofs.ListLemmas.{drop_at, get_push, get_set, length_push, length_set}
 use Rattle.voy_contents.specs.Known.{with_marks}
-use Rattle.voy_contents.specs.Marks.{AddsChanges, are_below, batches_in, batch_rows_in, changes_in, says, vsns_in}
-use Rattle.voy_contents.specs.Numbers.{has_number, with_number}
-use Rattle.voy_contents.specs.Slots.{with_slot}
+use Rattle.voy_contents.specs.Marks.{AddsChanges, are_below, batches_in, batch_rows_in, changes_in, says}
+use Rattle.voy_contents.specs.Vsns.{vsns_in}
+use Rattle.voy_contents.specs.Numbers.{has_number}
 use Rattle.voy_contents.specs.declared.marks.Marks.{Marks}
 use Rattle.voy_contents.specs.declared.table_marks.TableMarks.{TableMarks}
 use Rattle.voy_tables.specs.Changes.{table_of}
@@ -32,7 +23,11 @@ use Rattle.voy_tables.specs.declared.change.Change.{Change}
 use Rattle.voy_txn.specs.Contents.{contents_of}
 use Rattle.voy_txn.specs.History.{counted, last_vsn, vsns_after}
 use Rattle.voy_event.specs.Events.{change_in}
-use Rattle.voy_txn.specs.declared.txn.Txn.TheVariants.{Batch, Events}
+use Rattle.voy_txn.specs.declared.txn.Txn.TheVariants.{Batch, Events, Epoch}
+
+or_nothing : (b : Bool) → (b || false) ≡ b
+or_nothing true = refl
+or_nothing false = refl
 
 -- so many tables with no batches and no changes
 pub record AreUnmarked (count : ℕ) (tables : List TableMarks) : Type 0 where
@@ -51,7 +46,7 @@ push_all f x xs y all one n = ap f (get_push xs y n) ∙ by (nat_eq n (length xs
   by true = one
   by false = all n
 
-pub one_unmarked : (count : ℕ) (tables : List TableMarks) (made : TableMarks) → AreUnmarked count tables → made.batches ≡ [] → made.batch_rows ≡ 0 → made.changes ≡ 0
+pub one_unmarked : (count : ℕ) (tables : List TableMarks) (made : TableMarks) → AreUnmarked count tables → made.batches.items ≡ [] → made.batch_rows ≡ 0 → made.changes ≡ 0
     → AreUnmarked (count + 1) (tables ++ made ∷ [])
 one_unmarked count tables made are batches batch_rows changes = record {
   as_many = length_push tables made ∙ ap (λ n. n + 1) are.as_many;
@@ -61,60 +56,25 @@ one_unmarked count tables made are batches batch_rows changes = record {
 }
 
 -- such marks say what a store with no transactions knows
-pub unmarked_says : (schema : List Table) (count : ℕ) (marks : Marks) → AreUnmarked count marks.tables → marks.vsns ≡ [] → marks.loaded ≡ false
+pub unmarked_says : (schema : List Table) (count : ℕ) (marks : Marks) → AreUnmarked count marks.tables → ((c : ℕ) → vsns_in marks.vsns c ≡ 0) → marks.channels ≡ None → marks.loaded ≡ false
     → says (empty_lists schema) marks ≡ contents_of schema []
-unmarked_says schema count marks are vsns loaded = λ i. record {
+unmarked_says schema count marks are vsns channels loaded = λ i. record {
   tables = empty_lists schema;
-  vsns = vsns_in (vsns i);
+  vsns = λ c. vsns c i;
+  channels = channels i;
   has_batch = λ table batch. has_number batch (are.batches table i);
   loaded = loaded i;
   batch_rows = λ table. are.batch_rows table i;
   changes = λ table. are.changes table i;
 }
 
--- a place is that of a number where it has this number
-at_number : (a b : ℕ) → is_at (nat_cmp a) b ≡ (a == b)
-at_number a b = unsigned_tied a b
-
--- the value at a number, once one was set
-pub set_at : {V : Type 0} (key q : ℕ) (value none : V) (slots : List (ℕ × V)) → IsSome (lookup (is_at (nat_cmp key)) slots)
-    → unwrap_or (lookup (is_at (nat_cmp q)) (set_value (is_at (nat_cmp key)) slots value)) none ≡ (if key == q then value else unwrap_or (lookup (is_at (nat_cmp q)) slots) none)
-set_at key q value none slots there =
-    ap (λ found. unwrap_or found none) (lookup_set nat_cmp_total exact_unsigned key value q slots there)
-    ∙ ap (λ b. unwrap_or (cond b (Some value) (lookup (is_at (nat_cmp q)) slots)) none) (at_number key q)
-    ∙ by (key == q)
-  where
-    by : (b : Bool) → unwrap_or (cond b (Some value) (lookup (is_at (nat_cmp q)) slots)) none ≡ (if b then value else unwrap_or (lookup (is_at (nat_cmp q)) slots) none)
-    by true = refl
-    by false = refl
-
--- a place with the value that stands for none changes nothing
-pub made_at : {V E : Type 0} (result : Result (Unit {0}) E) (key : ℕ) (none : V) (old new : List (ℕ × V)) → OnOk result (new ≡ with_slot nat_cmp old key none) → OnErr result (new ≡ old)
-    → (q : ℕ) → unwrap_or (lookup (is_at (nat_cmp q)) new) none ≡ unwrap_or (lookup (is_at (nat_cmp q)) old) none
-made_at (Err e) key none old new ok err q = ap (λ slots. unwrap_or (lookup (is_at (nat_cmp q)) slots) none) err
-made_at (Ok u) key none old new ok err q =
-    ap (λ slots. unwrap_or (lookup (is_at (nat_cmp q)) slots) none) ok
-    ∙ ap (λ found. unwrap_or found none) (lookup_slot nat_cmp_total exact_unsigned key none q old)
-    ∙ by (lookup (is_at (nat_cmp q)) old) (is_at (nat_cmp q) key)
-  where
-    by : (found : Option _) (b : Bool) → unwrap_or (or_else found (cond b (Some none) None)) none ≡ unwrap_or found none
-    by None true = refl
-    by None false = refl
-    by (Some value) b = refl
-
-pub made_there : {V E : Type 0} (result : Result (Unit {0}) E) (key : ℕ) (none : V) (old new : List (ℕ × V)) → OnOk result (new ≡ with_slot nat_cmp old key none)
-    → OnOk result (IsSome (lookup (is_at (nat_cmp key)) new))
-made_there (Err e) key none old new ok = tt
-made_there (Ok u) key none old new ok = subst (λ slots. IsSome (lookup (is_at (nat_cmp key)) slots)) (sym ok) (slot_there nat_cmp_total exact_unsigned key none old)
-
 -- a batch is noted
-pub noted : (number q : ℕ) (slots : List (ℕ × Bool)) → IsSome (lookup (is_at (nat_cmp number)) slots) → has_number q (set_value (is_at (nat_cmp number)) slots true) ≡ with_number number q slots
-noted number q slots there = set_at number q true false slots there ∙ by (number == q) (has_number q slots) where
-  by : (same before : Bool) → (if same then true else before) ≡ (before || same)
-  by true true = refl
-  by true false = refl
-  by false true = refl
-  by false false = refl
+pub noted : (number q : ℕ) (batches : List ℕ) → has_number q (batches ++ number ∷ []) ≡ (has_number q batches || (number == q))
+noted number q [] = or_nothing (number == q)
+noted number q (n ∷ batches) = ap (λ b. (n == q) || b) (noted number q batches) ∙ grouped (n == q) (has_number q batches) (number == q) where
+  grouped : (a b c : Bool) → (a || (b || c)) ≡ ((a || b) || c)
+  grouped true b c = refl
+  grouped false b c = refl
 
 -- the last vsn is that of the last item
 last_is : (vsn : ℕ) (items : List Event) (n : ℕ) (item : Event) → length items ≡ suc n → slice_get items n ≡ Some item → last_vsn vsn items ≡ item.vsn
@@ -125,20 +85,16 @@ last_is vsn (x ∷ y ∷ items) zero item long at = absurd (omega (arith, long))
 last_is vsn (x ∷ y ∷ items) (suc n) item long at = last_is x.vsn (y ∷ items) n item (omega (arith, long)) at
 
 -- the vsn of the channel is raised
-pub raised : (channel : ℕ) (items : List Event) (item : Event) (slots : List (ℕ × ℕ)) → slice_get items (length items - 1) ≡ Some item → IsSome (lookup (is_at (nat_cmp channel)) slots)
-    → (c : ℕ) → vsns_in (set_value (is_at (nat_cmp channel)) slots item.vsn) c ≡ vsns_after (vsns_in slots) (Events channel items) c
-raised channel items item slots at there c = set_at channel c item.vsn 0 slots there ∙ by (channel == c) refl where
+pub raised : (channel : ℕ) (items : List Event) (item : Event) (old new : ℕ → ℕ) → slice_get items (length items - 1) ≡ Some item → ((c : ℕ) → new c ≡ (if c == channel then item.vsn else old c))
+    → (c : ℕ) → new c ≡ vsns_after old (Events channel items) c
+raised channel items item old new at set c = set c ∙ by (c == channel) where
   some : (xs : List Event) → slice_get xs (length xs - 1) ≡ Some item → length xs ≡ suc (length xs - 1)
   some [] found = absurd (none-some item found)
   some (x ∷ xs) found = omega arith
 
-  by : (same : Bool) → (channel == c) ≡ same → (if same then item.vsn else vsns_in slots c) ≡ (if c == channel then last_vsn (vsns_in slots c) items else vsns_in slots c)
-  by true is =
-      let turned : (c == channel) ≡ true = eq-eqb c channel (sym (eqb-true channel c is)) in
-      rw turned (sym (last_is (vsns_in slots c) items (length items - 1) item (some items at) at))
-  by false is =
-      let turned : (c == channel) ≡ false = false_from_ne_true (c == channel) (λ same. eqb-false channel c is (sym (eqb-true c channel same))) in
-      rw turned refl
+  by : (same : Bool) → (if same then item.vsn else old c) ≡ (if same then last_vsn (old c) items else old c)
+  by true = sym (last_is (old c) items (length items - 1) item (some items at) at)
+  by false = refl
 
 -- counts add up, also where they stay at their end
 counted_on : (a b c : ℕ) → counted (counted (a + b) + c) ≡ counted (a + (b + c))
@@ -160,7 +116,7 @@ count_cons c cs n = sum_by-append (λ x. cond (table_of x == n) 1 0) (c ∷ []) 
 
 -- one change is counted
 pub one_added : (c : Change) (tables : List TableMarks) (before after : TableMarks) → table_of c < length tables → slice_get tables (table_of c) ≡ Some before
-    → after.batches ≡ before.batches → after.batch_rows ≡ before.batch_rows → after.changes ≡ counted (before.changes + 1)
+    → after.batches.items ≡ before.batches.items → after.batch_rows ≡ before.batch_rows → after.changes ≡ counted (before.changes + 1)
     → AddsChanges (c ∷ []) tables (slice_set tables (table_of c) after)
 one_added c tables before after within was batches batch_rows changes = record {
   as_many = length_set tables (table_of c) after;
@@ -231,21 +187,6 @@ pub all_counted : (items : List Event) (old : List TableMarks) (at : ℕ) (table
 all_counted items old at tables counted past =
     counted.then_all tables (subst (λ left. AddsChanges (filter_map (λ (x : Event). change_in x.what) left) tables tables) (sym (drop_all at items past)) (nothing_added tables))
 
-or_nothing : (b : Bool) → (b || false) ≡ b
-or_nothing true = refl
-or_nothing false = refl
-
--- other vsns that are the same say the same
-pub same_vsns : (lists : List (List (List Value))) (marks : Marks) (vsns : List (ℕ × ℕ)) → ((c : ℕ) → vsns_in vsns c ≡ vsns_in marks.vsns c) → says lists (record marks { vsns = vsns }) ≡ says lists marks
-same_vsns lists marks vsns same = λ i. record {
-  tables = lists;
-  vsns = λ c. same c i;
-  has_batch = (says lists marks).has_batch;
-  loaded = marks.loaded;
-  batch_rows = (says lists marks).batch_rows;
-  changes = (says lists marks).changes;
-}
-
 -- the marks of one table were exchanged for others
 at_table : {X : Type 0} (f : Option TableMarks → X) (tables : List TableMarks) (table : ℕ) (after : TableMarks) → table < length tables
     → (t : ℕ) → f (slice_get (slice_set tables table after) t) ≡ (if t == table then f (Some after) else f (slice_get tables t))
@@ -256,12 +197,13 @@ at_table f tables table after within t = ap f (get_set tables table t after with
 
 -- a place for a batch changes nothing that is said
 pub same_batches : (lists : List (List (List Value))) (marks : Marks) (table : ℕ) (before after : TableMarks) → nat_lt table (length marks.tables) ≡ true → slice_get marks.tables table ≡ Some before
-    → ((n : ℕ) → has_number n after.batches ≡ has_number n before.batches) → after.batch_rows ≡ before.batch_rows → after.changes ≡ before.changes
+    → after.batches.items ≡ before.batches.items → after.batch_rows ≡ before.batch_rows → after.changes ≡ before.changes
     → says lists (record marks { tables = slice_set marks.tables table after }) ≡ says lists marks
 same_batches lists marks table before after within was batches batch_rows changes = λ i. record {
   tables = lists;
   vsns = vsns_in marks.vsns;
-  has_batch = λ t n. same (λ m. has_number n (batches_in m)) (batches n) t i;
+  channels = marks.channels;
+  has_batch = λ t n. same (λ m. has_number n (batches_in m)) (ap (has_number n) batches) t i;
   loaded = marks.loaded;
   batch_rows = λ t. same batch_rows_in batch_rows t i;
   changes = λ t. same changes_in changes t i;
@@ -275,12 +217,13 @@ same_batches lists marks table before after within was batches batch_rows change
 
 -- the batch of a table is noted
 pub batch_noted : (lists : List (List (List Value))) (marks : Marks) (table number : ℕ) (rows : List (List Value)) (before after : TableMarks) → nat_lt table (length marks.tables) ≡ true
-    → slice_get marks.tables table ≡ Some before → ((n : ℕ) → has_number n after.batches ≡ with_number number n before.batches)
+    → slice_get marks.tables table ≡ Some before → after.batches.items ≡ before.batches.items ++ number ∷ []
     → after.batch_rows ≡ counted (before.batch_rows + length rows) → after.changes ≡ before.changes
     → says lists (record marks { tables = slice_set marks.tables table after }) ≡ with_marks (says lists marks) (Batch table number rows)
 batch_noted lists marks table number rows before after within was batches batch_rows changes = λ i. record {
   tables = lists;
   vsns = vsns_in marks.vsns;
+  channels = marks.channels;
   has_batch = λ t n. (at_table (λ m. has_number n (batches_in m)) marks.tables table after below t ∙ has t n (nat_eq t table) refl) i;
   loaded = sym (or_nothing marks.loaded) i;
   batch_rows = λ t. (at_table batch_rows_in marks.tables table after below t ∙ counts t (nat_eq t table) refl) i;
@@ -294,10 +237,10 @@ batch_noted lists marks table number rows before after within was batches batch_
     here t is = sym was ∙ ap (slice_get marks.tables) (sym (eqb-true t table is))
 
     has : (t n : ℕ) (b : Bool) → nat_eq t table ≡ b
-        → (if b then has_number n after.batches else has_number n (batches_in (slice_get marks.tables t))) ≡ (has_number n (batches_in (slice_get marks.tables t)) || ((table == t) && (number == n)))
+        → (if b then has_number n after.batches.items else has_number n (batches_in (slice_get marks.tables t))) ≡ (has_number n (batches_in (slice_get marks.tables t)) || ((table == t) && (number == n)))
     has t n true is =
         let turned : (table == t) ≡ true = eq-eqb table t (sym (eqb-true t table is)) in
-        batches n ∙ (λ i. has_number n (batches_in (here t is i)) || (sym turned i && (number == n)))
+        ap (has_number n) batches ∙ noted number n before.batches.items ∙ (λ i. has_number n (batches_in (here t is i)) || (sym turned i && (number == n)))
     has t n false is =
         let turned : (table == t) ≡ false = false_from_ne_true (table == t) (λ same. eqb-false t table is (sym (eqb-true table t same))) in
         sym (or_nothing _) ∙ (λ i. has_number n (batches_in (slice_get marks.tables t)) || (sym turned i && (number == n)))
@@ -312,15 +255,29 @@ batch_noted lists marks table number rows before after within was batches batch_
     same t false is = refl
 
 -- events are noted
-pub events_noted : (lists : List (List (List Value))) (marks after : Marks) (channel : ℕ) (items : List Event) → after.loaded ≡ marks.loaded
+pub events_noted : (lists : List (List (List Value))) (marks after : Marks) (channel : ℕ) (items : List Event) → after.loaded ≡ marks.loaded → after.channels ≡ marks.channels
     → ((c : ℕ) → vsns_in after.vsns c ≡ vsns_after (vsns_in marks.vsns) (Events channel items) c)
     → AddsChanges (filter_map (λ (item : Event). change_in item.what) items) marks.tables after.tables
     → says lists after ≡ with_marks (says lists marks) (Events channel items)
-events_noted lists marks after channel items loaded vsns adds = λ i. record {
+events_noted lists marks after channel items loaded channels vsns adds = λ i. record {
   tables = lists;
   vsns = λ c. vsns c i;
+  channels = channels i;
   has_batch = λ t n. (ap (has_number n) (adds.batches t) ∙ sym (or_nothing (has_number n (batches_in (slice_get marks.tables t))))) i;
   loaded = (loaded ∙ sym (or_nothing marks.loaded)) i;
   batch_rows = λ t. adds.batch_rows t i;
   changes = λ t. adds.changes t i;
+}
+
+-- an epoch is noted
+pub epoch_noted : (lists : List (List (List Value))) (marks after : Marks) (vsn channels : ℕ) → after.loaded ≡ marks.loaded → after.channels ≡ Some channels → after.tables ≡ marks.tables
+    → ((c : ℕ) → vsns_in after.vsns c ≡ vsn) → says lists after ≡ with_marks (says lists marks) (Epoch vsn channels)
+epoch_noted lists marks after vsn channels loaded count tables vsns = λ i. record {
+  tables = lists;
+  vsns = λ c. vsns c i;
+  channels = count i;
+  has_batch = λ t n. (ap (λ ms. has_number n (batches_in (slice_get ms t))) tables ∙ sym (or_nothing (has_number n (batches_in (slice_get marks.tables t))))) i;
+  loaded = (loaded ∙ sym (or_nothing marks.loaded)) i;
+  batch_rows = λ t. batch_rows_in (slice_get (tables i) t);
+  changes = λ t. changes_in (slice_get (tables i) t);
 }

@@ -11,7 +11,7 @@ use Rattle.voy_schema.specs.declared.value.Value.{Value}
 use Rattle.voy_contents.proofs.MemTableLemmas.{length_map}
 use Rattle.voy_contents.proofs.PreparingLemmas.{table_there}
 use Rattle.voy_contents.specs.Loads.{width_of}
-use Rattle.voy_contents.specs.Marks.{NamesTables, are_below}
+use Rattle.voy_contents.specs.Marks.{IsInChannels, NamesTables, are_below}
 use Rattle.voy_tables.specs.Changes.{is_well_formed, table_of}
 use Rattle.voy_tables.specs.RowText.{row_line, row_lines}
 use Rattle.voy_tables.specs.declared.change.Change.{Change}
@@ -23,7 +23,7 @@ use Rattle.voy_txn.specs.LawfulTxn.{AreRowsOf, IsLawfulTxn}
 use Rattle.voy_txn.specs.LoadLaws.{items_are_well_formed}
 use Rattle.voy_txn.specs.Payload.{number, payload_of, rows_part, sized}
 use Rattle.voy_txn.specs.declared.txn.Txn.{Txn}
-use Rattle.voy_txn.specs.declared.txn.Txn.TheVariants.{Load, Batch, Events}
+use Rattle.voy_txn.specs.declared.txn.Txn.TheVariants.{Load, Batch, Events, Epoch}
 
 ends_long : (front middle : List ℕ) (x : ℕ) → 1 ≤ length (front ++ (middle ++ x ∷ []))
 ends_long front middle x = omega (arith, length-append front (middle ++ x ∷ []), length-append middle (x ∷ []))
@@ -89,12 +89,14 @@ pub is_narrow : (schema : List Table) (txn : Txn) → length (payload_of schema 
 is_narrow schema (Load tables) short = omega (arith, short, load_long schema tables, parts_long tables)
 is_narrow schema (Batch table batch rows) short = omega arith
 is_narrow schema (Events channel items) short = omega arith
+is_narrow schema (Epoch vsn channels) short = omega arith
 
 -- there are few items
 pub are_few : (schema : List Table) (txn : Txn) → IsLawfulTxn schema txn → length (payload_of schema txn) ≤ max_payload_bytes → length (items_of txn) < 2 ^ 32
 are_few schema (Load tables) lawful short = omega (arith, short, load_long schema tables, inserts_long 0 tables)
 are_few schema (Batch table batch rows) lawful short = omega (arith, length_map (Insert table) rows, rows_few (slice_get schema table) rows lawful.of_table)
 are_few schema (Events channel items) lawful short = omega (arith, changes_long items, lawful.most)
+are_few schema (Epoch vsn channels) lawful short = omega arith
 
 -- the items are of tables of the schema
 well_formed_below : (schema : List Table) (cs : List Change) → list_all (is_well_formed schema) cs ≡ true → are_below (length schema) cs ≡ true
@@ -115,3 +117,11 @@ names_tables schema (Batch table batch rows) lawful = by (slice_get schema table
   by None is of = absurd of
   by (Some t) is of = lt-ltb table (length schema) (slice_get_within schema table t is)
 names_tables schema (Events channel items) lawful = well_formed_below schema _ (items_are_well_formed schema (Events channel items) lawful)
+names_tables schema (Epoch vsn channels) lawful = tt
+
+-- and one of the channels that there are
+pub is_in_channels : (schema : List Table) (txn : Txn) → IsLawfulTxn schema txn → IsInChannels txn
+is_in_channels schema (Load tables) lawful = tt
+is_in_channels schema (Batch table batch rows) lawful = tt
+is_in_channels schema (Events channel items) lawful = lawful.within
+is_in_channels schema (Epoch vsn channels) lawful = tt

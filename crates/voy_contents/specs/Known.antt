@@ -2,7 +2,7 @@
 use Rattle.std.specs.Prelude.{◌≡◌, ◌||◌, ℕ, List, Option, Some, None, length, slice_get}
 use Rattle.voy_schema.specs.declared.table.Table.{Table}
 use Rattle.voy_schema.specs.declared.value.Value.{Value}
-use Rattle.voy_contents.specs.Marks.{HasMarkPlace, NamesTables, says}
+use Rattle.voy_contents.specs.Marks.{HasMarkRoom, NamesTables, says}
 use Rattle.voy_contents.specs.MemTables.{TupleSlots}
 use Rattle.voy_contents.specs.TableSteps.{lists_of}
 use Rattle.voy_contents.specs.WayBack.{LeadsTo}
@@ -11,7 +11,7 @@ use Rattle.voy_contents.specs.declared.done.Done.{Done}
 use Rattle.voy_contents.specs.declared.mem_table.MemTable.{MemTable}
 use Rattle.voy_txn.specs.Commits.{AreCleanTables}
 use Rattle.voy_txn.specs.Contents.{Contents, is_batch}
-use Rattle.voy_txn.specs.History.{batch_of, batch_rows_after, changes_after, is_load, tables_after, vsns_after}
+use Rattle.voy_txn.specs.History.{batch_of, batch_rows_after, changes_after, channels_after, is_load, tables_after, vsns_after}
 use Rattle.voy_txn.specs.declared.txn.Txn.{Txn}
 
 -- the tables of the schema that they are of
@@ -27,6 +27,7 @@ abbrev pub with_items : List Table → Contents → Txn → Contents
 with_items schema contents txn = record {
   tables = tables_after schema contents.tables txn;
   vsns = contents.vsns;
+  channels = contents.channels;
   has_batch = contents.has_batch;
   loaded = contents.loaded;
   batch_rows = contents.batch_rows;
@@ -38,16 +39,17 @@ abbrev pub with_marks : Contents → Txn → Contents
 with_marks contents txn = record {
   tables = contents.tables;
   vsns = vsns_after contents.vsns txn;
+  channels = channels_after contents.channels txn;
   has_batch = λ table batch. contents.has_batch table batch || is_batch (batch_of txn) table batch;
   loaded = contents.loaded || is_load txn;
   batch_rows = batch_rows_after contents.batch_rows txn;
   changes = changes_after contents.changes txn;
 }
 
--- the marks of the transaction have their places
+-- the marks of the transaction can be noted without memory
 pub record HasRoomFor (txn : Txn) (contents : MemContents) : Type 0 where
   pub names : NamesTables (length contents.marks.tables) txn
-  pub place : HasMarkPlace txn contents.marks
+  pub room : HasMarkRoom txn contents.marks.tables
 
 -- what was done leads back from these rows to clean ones
 pub record CanUndo (done : Done) (contents : MemContents) : Type 0 where

@@ -5,6 +5,7 @@ pub mod TableSteps
 pub mod Loads
 pub mod WayBack
 pub mod Numbers
+pub mod Vsns
 pub mod Marks
 pub mod Known
 pub mod KnownLaws

@@ -1,12 +1,10 @@
 -- What is known beside the rows: the vsn of each channel, whether the load is there, and the batches and changes of each table.
-use Rattle.std.specs.Prelude.{◌≡◌, ◌+◌, ◌==◌, ℕ, Bool, true, List, [], Option, Some, None, count_by, length, nat_lt, slice_get}
-use Rattle.std.specs.BTreeMap.{is_at}
+use Rattle.std.specs.Prelude.{◌≡◌, ◌+◌, ◌<◌, ◌==◌, ℕ, Bool, true, List, [], Option, Some, None, count_by, length, nat_lt, slice_get}
 use Rattle.std.specs.List.{list_all}
-use Rattle.std.specs.Map.{lookup}
-use Rattle.std.specs.Option.{IsSome, unwrap_or}
-use Rattle.std.specs.Ordering.{nat_cmp}
+use Rattle.std.specs.Vec.{vec_capacity, vec_len}
 use Rattle.voy_schema.specs.declared.value.Value.{Value}
 use Rattle.voy_contents.specs.Numbers.{has_number}
+use Rattle.voy_contents.specs.Vsns.{vsns_in}
 use Rattle.voy_contents.specs.declared.marks.Marks.{Marks}
 use Rattle.voy_contents.specs.declared.table_marks.TableMarks.{TableMarks}
 use Rattle.voy_tables.specs.Changes.{table_of}
@@ -14,17 +12,14 @@ use Rattle.voy_tables.specs.declared.change.Change.{Change}
 use Rattle.voy_txn.specs.Contents.{Contents}
 use Rattle.voy_txn.specs.History.{counted}
 use Rattle.voy_txn.specs.Items.{items_of}
+use Rattle.voy_txn.specs.LawfulTxn.{max_channels}
 use Rattle.voy_txn.specs.declared.txn.Txn.{Txn}
-use Rattle.voy_txn.specs.declared.txn.Txn.TheVariants.{Load, Batch, Events}
-
--- the vsn of each channel, 0 where it has no place
-abbrev pub vsns_in : List (ℕ × ℕ) → ℕ → ℕ
-vsns_in slots = λ channel. unwrap_or (lookup (is_at (nat_cmp channel)) slots) 0
+use Rattle.voy_txn.specs.declared.txn.Txn.TheVariants.{Load, Batch, Events, Epoch}
 
 -- the batches of a table; none where there is no such table
-abbrev pub batches_in : Option TableMarks → List (ℕ × Bool)
+abbrev pub batches_in : Option TableMarks → List ℕ
 batches_in None = []
-batches_in (Some marks) = marks.batches
+batches_in (Some marks) = marks.batches.items
 
 -- how many rows the batches of a table had
 abbrev pub batch_rows_in : Option TableMarks → ℕ
@@ -41,6 +36,7 @@ abbrev pub says : List (List (List Value)) → Marks → Contents
 says lists marks = record {
   tables = lists;
   vsns = vsns_in marks.vsns;
+  channels = marks.channels;
   has_batch = λ table batch. has_number batch (batches_in (slice_get marks.tables table));
   loaded = marks.loaded;
   batch_rows = λ table. batch_rows_in (slice_get marks.tables table);
@@ -56,12 +52,26 @@ abbrev pub NamesTables : ℕ → Txn → Type 0
 NamesTables count (Load tables) = Unit {0}
 NamesTables count (Batch table batch rows) = nat_lt table count ≡ true
 NamesTables count (Events channel items) = are_below count (items_of (Events channel items)) ≡ true
+NamesTables count (Epoch vsn channels) = Unit {0}
 
--- the place of its batch or channel is there
-abbrev pub HasMarkPlace : Txn → Marks → Type 0
-HasMarkPlace (Load tables) marks = Unit {0}
-HasMarkPlace (Batch table batch rows) marks = IsSome (lookup (is_at (nat_cmp batch)) (batches_in (slice_get marks.tables table)))
-HasMarkPlace (Events channel items) marks = IsSome (lookup (is_at (nat_cmp channel)) marks.vsns)
+-- its channel is one of those that there are
+abbrev pub IsInChannels : Txn → Type 0
+IsInChannels (Load tables) = Unit {0}
+IsInChannels (Batch table batch rows) = Unit {0}
+IsInChannels (Events channel items) = channel < max_channels
+IsInChannels (Epoch vsn channels) = Unit {0}
+
+-- there is room for one batch more
+abbrev pub HasRoom : Option TableMarks → Type 0
+HasRoom None = Unit {0}
+HasRoom (Some marks) = vec_len marks.batches < vec_capacity marks.batches
+
+-- the transaction can be noted without memory
+abbrev pub HasMarkRoom : Txn → List TableMarks → Type 0
+HasMarkRoom (Load tables) marks = Unit {0}
+HasMarkRoom (Batch table batch rows) marks = HasRoom (slice_get marks table)
+HasMarkRoom (Events channel items) marks = channel < max_channels
+HasMarkRoom (Epoch vsn channels) marks = Unit {0}
 
 -- these changes were counted, each for its table, and nothing else changed
 pub record AddsChanges (added : List Change) (old new : List TableMarks) : Type 0 where

@@ -23,6 +23,7 @@ pub(crate) fn items_of(alloc: Global, txn: &Txn) -> Result<Items<Change>, AllocE
         Txn::Load { tables } => push_load(tables, &mut items)?,
         Txn::Batch { table, rows, .. } => push_inserts(*table, rows, &mut items)?,
         Txn::Events { items: events, .. } => push_changes(events, &mut items)?,
+        Txn::Epoch { .. } => {}
     }
     Ok(items)
 }

@@ -39,6 +39,7 @@ mod taking;
 mod tuples;
 mod turning;
 mod undo;
+mod vsns;
 mod way_back;
 
 pub use contents::MemContents;

@@ -11,12 +11,21 @@ use voy_schema::{Items, Key, Row, Rows};
 use voy_txn::Counts;
 
 impl MemContents {
-    /// The vsn up to which the channel is done, 0 where it has none.
+    /// The vsn up to which the channel is done: that of its last item since the last epoch, or else that of the
+    /// epoch, 0 where there is neither.
     #[tactic(auto, unfolding(crate::specs::Known::known, crate::specs::Known::schema_of))]
     pub fn last(&self, channel: u32) -> u64
         ensures { result ≡ (known self.now).vsns channel }
     {
         self.marks.last(channel)
+    }
+
+    /// How many channels the last epoch said. `None` where there is no epoch.
+    #[tactic(auto, unfolding(crate::specs::Known::known, crate::specs::Known::schema_of))]
+    pub fn channels(&self) -> Option<u32>
+        ensures { result ≡ (known self.now).channels }
+    {
+        self.marks.channels
     }
 
     /// Whether the batch of this number of the table was taken.

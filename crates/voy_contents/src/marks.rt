@@ -1,31 +1,32 @@
-ghost use Rattle.std.specs.Prelude.{◌≡◌, ◌++◌, ◌<◌, ℕ, [], List, Some, true, length, slice_get, IsSome, IfOk, OnOk};
-ghost use Rattle.std.specs.BTreeMap.{is_at};
+ghost use Rattle.std.specs.Prelude.{◌≡◌, ◌<◌, ℕ, [], List, true, length, slice_get, IfOk, OnOk};
 ghost use Rattle.std.specs.List.{cons_option, filter_map};
-ghost use Rattle.std.specs.Map.{lookup};
-ghost use Rattle.std.specs.Ordering.{nat_cmp};
 ghost use Rattle.voy_schema.specs.declared.value.Value.{Value};
 ghost use Rattle.voy_contents.specs.Known.{with_marks};
-ghost use Rattle.voy_contents.specs.Marks.{AddsChanges, HasMarkPlace, NamesTables, are_below, batch_rows_in, changes_in, says, vsns_in};
+ghost use Rattle.voy_contents.specs.Marks.{AddsChanges, HasMarkRoom, IsInChannels, NamesTables, are_below, batch_rows_in, changes_in, says};
+ghost use Rattle.voy_contents.specs.Vsns.{vsns_in};
 ghost use Rattle.voy_event.specs.declared.event.Event.{Event};
 ghost use Rattle.voy_tables.specs.Lists.{empty_lists};
 ghost use Rattle.voy_txn.specs.Commits.{is_next};
 ghost use Rattle.voy_txn.specs.Contents.{contents_of};
 ghost use Rattle.voy_txn.specs.History.{vsns_after};
+ghost use Rattle.voy_txn.specs.LawfulTxn.{max_channels};
 ghost use Rattle.voy_event.specs.Events.{change_in};
 ghost use Rattle.voy_txn.specs.declared.txn.Txn.{Txn};
 
-use crate::slots::Slots;
 use crate::table_marks::TableMarks;
+use crate::vsns::Vsns;
 use std::alloc::{AllocError, Global};
 use voy_event::{Event, What};
 use voy_schema::{Items, Schema};
 use voy_txn::{Txn, ascend_above};
 
-/// What a store knows beside its rows: for each channel its vsn, whether the load is there, and for each
-/// table its batches and what they and its changes came to.
+/// What a store knows beside its rows: for each channel its vsn, what the last epoch said, whether the load is there,
+/// and for each table its batches and what they and its changes came to.
 #[derive(Drop)]
 pub(crate) struct Marks {
-    pub(crate) vsns: Slots<u32, u64>,
+    pub(crate) vsns: Vsns,
+    /// How many channels the last epoch said.
+    pub(crate) channels: Option<u32>,
     pub(crate) loaded: bool,
     pub(crate) tables: Items<TableMarks>,
 }
@@ -36,12 +37,14 @@ impl Marks {
         ensures sized { IfOk result (λ marks. length marks.tables ≡ length schema.now.tables) }
         ensures empty { IfOk result (λ marks. says (empty_lists schema.now.tables) marks ≡ contents_of schema.now.tables []) }
     {
+        let vsns = Vsns::new(alloc)?;
         let mut tables = Items::new(alloc);
         for _table in schema.tables.as_slice() {
             tables.push(TableMarks::new(alloc))?;
         }
         Ok(Marks {
-            vsns: Slots::new(alloc),
+            vsns,
+            channels: None,
             loaded: false,
             tables,
         })
@@ -51,10 +54,7 @@ impl Marks {
     pub(crate) fn last(&self, channel: u32) -> u64
         ensures { result ≡ vsns_in self.now.vsns channel }
     {
-        match self.vsns.get(&channel) {
-            Some(vsn) => *vsn,
-            None => 0,
-        }
+        self.vsns.last(channel)
     }
 
     /// Whether the batch of this number of the table was taken.
@@ -95,29 +95,28 @@ impl Marks {
             Txn::Load { .. } => !self.loaded,
             Txn::Batch { table, number, .. } => !self.has_batch(*table, *number),
             Txn::Events { channel, items } => ascend_above(self.last(*channel), items.as_slice()),
+            Txn::Epoch { vsn, .. } => self.vsns.is_none_above(*vsn),
         }
     }
 
-    /// Makes the places that `txn` needs to be noted. What the marks say stays as it is.
+    /// Makes the room that `txn` needs to be noted. What the marks say stays as it is.
     pub(crate) fn make_room(&mut self, txn: &Txn) -> Result<(), AllocError>
-        requires { NamesTables (length self.old.tables) txn.now }
+        requires names { NamesTables (length self.old.tables) txn.now }
+        requires channel { IsInChannels txn.now }
         ensures sized { length self.new.tables ≡ length self.old.tables }
         ensures same { (lists : List (List (List Value))) → says lists self.new ≡ says lists self.old }
-        ensures place { OnOk result (HasMarkPlace txn.now self.new) }
+        ensures room { OnOk result (HasMarkRoom txn.now self.new.tables) }
     {
         match txn {
-            Txn::Load { .. } => Ok(()),
-            Txn::Batch { table, number, .. } => {
-                self.tables.item_mut(*table as usize).make_batch(*number)
-            }
-            Txn::Events { channel, .. } => self.vsns.make(channel, 0),
+            Txn::Batch { table, .. } => self.tables.item_mut(*table as usize).make_room(),
+            _ => Ok(()),
         }
     }
 
     /// Raises the vsn of the channel, or puts down the batch or the load, and counts. It takes no memory.
     pub(crate) fn note(&mut self, txn: &Txn)
         requires names { NamesTables (length self.old.tables) txn.now }
-        requires place { HasMarkPlace txn.now self.old }
+        requires room { HasMarkRoom txn.now self.old.tables }
         ensures sized { length self.new.tables ≡ length self.old.tables }
         ensures noted { (lists : List (List (List Value))) → says lists self.new ≡ with_marks (says lists self.old) txn.now }
     {
@@ -137,18 +136,21 @@ impl Marks {
                 raise(&mut self.vsns, *channel, items.as_slice());
                 count_changes(&mut self.tables, items.as_slice());
             }
+            Txn::Epoch { vsn, channels } => {
+                self.vsns.set_all(*vsn);
+                self.channels = Some(*channels);
+            }
         }
     }
 }
 
 /// Raises the vsn of the channel to that of the last of these events.
-#[tactic(auto, using(crate::proofs::MarkLemmas::raised))]
-fn raise(vsns: &mut Slots<u32, u64>, channel: u32, items: &[Event])
-    requires { IsSome (lookup (is_at (nat_cmp channel)) vsns.old) }
+fn raise(vsns: &mut Vsns, channel: u32, items: &[Event])
+    requires { channel < max_channels }
     ensures { (c : ℕ) → vsns_in vsns.new c ≡ vsns_after (vsns_in vsns.old) (Txn.Events channel items.now) c }
 {
     if let Some(item) = items.last() {
-        let _before = vsns.set(&channel, item.vsn);
+        vsns.set(channel, item.vsn);
     }
 }
 

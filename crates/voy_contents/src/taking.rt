@@ -46,8 +46,8 @@ impl MemContents {
         &self.schema
     }
 
-    /// Whether a store that knows this may take `txn`: the one load, a batch that has no marker, or events
-    /// whose vsns ascend from above that of their channel.
+    /// Whether a store that knows this may take `txn`: the one load, a batch that has no marker, events whose vsns
+    /// ascend from above that of their channel, or an epoch whose vsn is not below that of any channel.
     #[tactic(auto, unfolding(crate::specs::Known::known, crate::specs::Known::schema_of))]
     pub fn is_next(&self, txn: &Txn) -> bool
         ensures { result ≡ is_next (known self.now) txn.now }
@@ -96,7 +96,7 @@ impl MemContents {
         go_back(&mut self.tables, way_back);
     }
 
-    /// Raises the vsn of the channel, or puts down the batch or the load, and counts. It takes no memory.
+    /// Raises the vsn of the channel, puts down the batch or the load, and counts, or begins the epoch. It takes no memory.
     #[tactic(auto, unfolding(crate::specs::Known::known, crate::specs::Known::schema_of))]
     pub fn note(&mut self, txn: &Txn)
         requires { HasRoomFor txn.now self.old }
@@ -119,7 +119,7 @@ impl MemContents {
         sweep_behind(&mut self.tables, &done.way_back);
     }
 
-    /// The items of `txn`, with the places made that it needs to be noted. What is known stays as it is.
+    /// The items of `txn`, with the room made that it needs to be noted. What is known stays as it is.
     #[tactic(auto, unfolding(crate::specs::Known::known, crate::specs::Known::schema_of))]
     fn ready(&mut self, txn: &Txn) -> Result<Items<Change>, AllocError>
         requires lawful { IsLawfulTxn (schema_of self.old) txn.now }

@@ -45,6 +45,7 @@ pub(crate) fn go(
         Txn::Load { .. } => Ok(WayBack::Tables(load(alloc, schema, tables, items)?)),
         Txn::Batch { .. } => Ok(WayBack::Steps(apply(alloc, schema, tables, items)?)),
         Txn::Events { .. } => Ok(WayBack::Steps(apply(alloc, schema, tables, items)?)),
+        Txn::Epoch { .. } => Ok(WayBack::Steps(Items::new(alloc))),
     }
 }
 

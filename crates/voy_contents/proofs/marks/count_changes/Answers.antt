@@ -1,4 +1,4 @@
-use Rattle.voy_contents.proofs.IndexLemmas.{get_at}
+use Rattle.voy_contents.proofs.ListLemmas.{get_at}
 use Rattle.voy_contents.proofs.MarkLemmas.{one_counted}
 use Rattle.voy_contents.proofs.marks.count_changes.Goals as goal
 

@@ -1,7 +1,7 @@
-use Rattle.std.proofs.Common.{length, refl, sym}
+use Rattle.std.proofs.Common.{Some, length, refl, sym}
 use Rattle.std.proofs.lemmas.Bool.{ltb-true}
-use Rattle.voy_contents.proofs.IndexLemmas.{get_at}
-use Rattle.voy_contents.proofs.MarkLemmas.{batch_noted, events_noted}
+use Rattle.voy_contents.proofs.ListLemmas.{get_at}
+use Rattle.voy_contents.proofs.MarkLemmas.{batch_noted, epoch_noted, events_noted}
 use Rattle.voy_contents.proofs.marks.Marks.note.Goals as goal
 
 pub returns-in-Batch-clause-noted : goal.returns-in-Batch-clause-noted
@@ -14,5 +14,11 @@ returns-in-Batch-clause-noted c = λ lists.
 
 pub returns-in-Events-clause-noted : goal.returns-in-Events-clause-noted
 returns-in-Events-clause-noted c = λ lists.
-    rw c.in-Events.is (events_noted lists c.args.self.now _ c.in-Events.channel c.in-Events.items refl
+    rw c.in-Events.is (events_noted lists c.args.self.now
+    (record { vsns = c.raise.new.vsns; channels = c.args.self.now.channels; loaded = c.args.self.now.loaded; tables = c.count_changes.new.tables }) c.in-Events.channel c.in-Events.items refl refl
     (rw c.as_slice.ensures at c.raise.ensures) (rw c.as_slice-in-Events.ensures at c.count_changes.ensures))
+
+pub returns-in-Epoch-clause-noted : goal.returns-in-Epoch-clause-noted
+returns-in-Epoch-clause-noted c = λ lists.
+    rw c.in-Epoch.is (epoch_noted lists c.args.self.now
+    (record { vsns = c.set_all.new.self; channels = Some c.in-Epoch.channels; loaded = c.args.self.now.loaded; tables = c.args.self.now.tables }) c.in-Epoch.vsn c.in-Epoch.channels refl refl refl c.set_all.ensures)
