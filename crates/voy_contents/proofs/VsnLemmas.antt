@@ -1,8 +1,7 @@
 -- Vsns that are set, one or all.
-use Rattle.std.proofs.Common.{◌≡◌, ◌+◌, ◌-◌, ◌<◌, ◌≤◌, ◌&&◌, ℕ, suc, Bool, true, false, List, [], ◌∷◌, ◌++◌, Option, Some, None, length, refl, sym, ap, ◌∙◌, arith}
+use Rattle.std.proofs.Common.{◌≡◌, ◌+◌, ◌<◌, ◌≤◌, ℕ, Bool, true, false, List, [], ◌∷◌, ◌++◌, Option, Some, None, length, refl, ap, ◌∙◌, arith}
 use Rattle.std.proofs.lemmas.Bool.{eqb-false}
 use Rattle.std.proofs.lemmas.Option.{slice_get_within}
-use Rattle.std.specs.List.{list_all, range_with_len}
 use Rattle.std.specs.Option.{unwrap_or}
 use Rattle.std.specs.Prelude.{◌==◌, nat_eq, slice_get, slice_set, if◌then◌else◌}
 use Rattle.voy_contents.proofs.ListLemmas.{get_push, get_set}
@@ -37,24 +36,3 @@ one_is vsns epoch channel vsn within c = ap (λ o. unwrap_or o epoch) (get_set v
   by : (b : Bool) → unwrap_or (if b then Some vsn else slice_get vsns c) epoch ≡ (if b then vsn else unwrap_or (slice_get vsns c) epoch)
   by true = refl
   by false = refl
-
-one_number_more : (test : ℕ → Bool) (c n : ℕ) → c < n
-    → list_all test (range_with_len c (n - c)) ≡ (test c && list_all test (range_with_len (c + 1) (n - (c + 1))))
-one_number_more test c n below = ap (λ k. list_all test (range_with_len c k)) split where
-  split : n - c ≡ suc (n - (c + 1))
-  split = omega (arith, below)
-
--- of a range of numbers, where the first passes, all do where the others do
-pub passed : (test : ℕ → Bool) (c n : ℕ) (whole : Bool) → c < n → test c ≡ true → list_all test (range_with_len c (n - c)) ≡ whole
-    → list_all test (range_with_len (c + 1) (n - (c + 1))) ≡ whole
-passed test c n whole below first is = sym (one_number_more test c n below ∙ ap (λ b. b && list_all test (range_with_len (c + 1) (n - (c + 1)))) first) ∙ is
-
--- where it does not, not all do
-pub failed : (test : ℕ → Bool) (c n : ℕ) (whole : Bool) → c < n → test c ≡ false → list_all test (range_with_len c (n - c)) ≡ whole → false ≡ whole
-failed test c n whole below first is = sym (one_number_more test c n below ∙ ap (λ b. b && list_all test (range_with_len (c + 1) (n - (c + 1)))) first) ∙ is
-
--- and all of none do
-pub ended : (test : ℕ → Bool) (c n : ℕ) (whole : Bool) → n ≤ c → list_all test (range_with_len c (n - c)) ≡ whole → true ≡ whole
-ended test c n whole past is = sym (ap (λ k. list_all test (range_with_len c k)) none) ∙ is where
-  none : n - c ≡ 0
-  none = omega (arith, past)

@@ -3,4 +3,3 @@ pub mod RowLemmas
 pub mod ItemLemmas
 pub mod PayloadLemmas
 pub mod LoopLemmas
-pub mod RangeLemmas

@@ -15,3 +15,4 @@ pub mod SizeLaws
 pub mod BatchRows
 pub mod BatchRowLaws
 pub mod BatchTableLaws
+pub mod RangeLaws

@@ -1,7 +1,7 @@
 use Rattle.std.proofs.Common.{◌≡◌, ◌≤◌, true, false, arith}
 use Rattle.std.specs.Prelude.{nat_le}
 use Rattle.std.proofs.lemmas.Bool.Decides.{nat_tests}
-use Rattle.voy_txn.proofs.RangeLemmas.{no_number, number_fails, number_passes}
+use Rattle.voy_txn.specs.RangeLaws.{no_number, number_fails, number_passes}
 use Rattle.voy_txn.proofs.next.is_none_above.Goals as goal
 
 pub returns-then-last-vsn : goal.returns-then-last-vsn
