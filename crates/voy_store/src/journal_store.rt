@@ -1,4 +1,4 @@
-ghost use Rattle.std.specs.Prelude.{◌≡◌, true, Some, IfErr, IfOk, IsTrue};
+ghost use Rattle.std.specs.Prelude.{◌≡◌, ◌↔◌, true, Some, IfErr, IfOk, IsTrue};
 ghost use Rattle.voy_disk.specs.Calls.{Change};
 ghost use Rattle.voy_disk.specs.Faults.{HasCause};
 ghost use Rattle.voy_disk.specs.Files.{IfTold, bytes_now};
@@ -72,7 +72,7 @@ impl<D: Disk> LogStore<JournalLog<D>> {
     /// The disk, as the store's last call left it. What a stop leaves of the store is what its journal reads as.
     pub fn into_disk(self) -> D
         ensures disk { result ≡ self.log.disk }
-        ensures images { ⟦<JournalStore<D> as Store>⟧.images self ≡ HasHistory (⟦<JournalStore<D> as Store>⟧.schema self) (ImagesOf (D.files result)) }
+        ensures images { (read : _) → ⟦<JournalStore<D> as Store>⟧.images self read ↔ HasHistory (⟦<JournalStore<D> as Store>⟧.schema self) (ImagesOf (D.files result)) read }
         ensures beside { ⟦<JournalStore<D> as Store>⟧.beside self ≡ files_beside store_name (D.files result) }
         ensures faults { ⟦<JournalStore<D> as Store>⟧.faults self ≡ D.faults result }
         ensures lender { ⟦<JournalStore<D> as Store>⟧.lender self ≡ D.lender result }
