@@ -20,9 +20,9 @@ use Rattle.voy_txn.specs.declared.txn.Txn.TheVariants.{Load, Batch, Events, Epoc
 abbrev pub max_payload_bytes : ℕ
 max_payload_bytes = 1073741824
 
--- no channel is done further than to this vsn
-abbrev pub is_none_above : (ℕ → ℕ) → ℕ → Bool
-is_none_above vsns vsn = list_all (λ channel. nat_le (vsns channel) vsn) (range_with_len 0 max_channels)
+-- none of so many channels is done further than to this vsn
+unfoldable pub is_none_above : ℕ → (ℕ → ℕ) → ℕ → Bool
+is_none_above channels vsns vsn = list_all (λ channel. nat_le (vsns channel) vsn) (range_with_len 0 channels)
 
 -- a store that knows this may take the one load, a batch that has no marker, events whose vsns ascend from above that of
 -- their channel, or an epoch whose vsn is not below that of any channel
@@ -30,7 +30,7 @@ abbrev pub is_next : Contents → Txn → Bool
 is_next contents (Load tables) = not contents.loaded
 is_next contents (Batch table batch rows) = not (contents.has_batch table batch)
 is_next contents (Events channel items) = ascend_above (contents.vsns channel) items
-is_next contents (Epoch vsn channels) = is_none_above contents.vsns vsn
+is_next contents (Epoch vsn channels) = is_none_above max_channels contents.vsns vsn
 
 -- the transaction where its items fit, one after the other; nothing where they do not
 abbrev pub if_none : Option (ℕ × Misfit) → Txn → List Txn

@@ -15,15 +15,16 @@ pub fn is_next<S: Store>(store: &S, txn: &Txn) -> bool
         Txn::Load { .. } => !store.loaded(),
         Txn::Batch { table, number, .. } => !store.has_batch(*table, *number),
         Txn::Events { channel, items } => ascend_above(store.last(*channel), items.as_slice()),
-        Txn::Epoch { vsn, .. } => is_none_above(store, *vsn),
+        Txn::Epoch { vsn, .. } => is_none_above(store, MAX_CHANNELS, *vsn),
     }
 }
 
-/// Whether no channel is done further than to `vsn`.
-fn is_none_above<S: Store>(store: &S, vsn: u64) -> bool
-    ensures { result ≡ is_none_above (S.contents store.now).vsns vsn }
+/// Whether none of so many channels is done further than to `vsn`.
+#[tactic(auto, unfolding(crate::specs::Commits::is_none_above))]
+fn is_none_above<S: Store>(store: &S, channels: u32, vsn: u64) -> bool
+    ensures { result ≡ is_none_above channels (S.contents store.now).vsns vsn }
 {
-    for channel in 0..MAX_CHANNELS {
+    for channel in 0..channels {
         if store.last(channel) > vsn {
             return false;
         }

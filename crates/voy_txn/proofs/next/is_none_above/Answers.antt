@@ -1,20 +1,23 @@
-use Rattle.std.proofs.Common.{ap, sym, ◌∙◌}
-use Rattle.std.proofs.lemmas.Bool.{le-leb, lt-leb}
+use Rattle.std.proofs.Common.{◌≡◌, ◌≤◌, true, false, arith}
 use Rattle.std.specs.Prelude.{nat_le}
-use Rattle.voy_txn.specs.LawfulTxn.{max_channels}
-use Rattle.voy_txn.proofs.RangeLemmas.{ended, failed, passed}
+use Rattle.std.proofs.lemmas.Bool.Decides.{nat_tests}
+use Rattle.voy_txn.proofs.RangeLemmas.{no_number, number_fails, number_passes}
 use Rattle.voy_txn.proofs.next.is_none_above.Goals as goal
 
 pub returns-then-last-vsn : goal.returns-then-last-vsn
 returns-then-last-vsn g c =
-    failed (λ channel. nat_le ((g.S.Store.contents c.args.store.now).vsns channel) c.args.vsn) c.loop-channel.channel max_channels _ c.loop-channel-test.true
-    (ap (λ last. nat_le last c.args.vsn) (sym c.last.ensures) ∙ lt-leb c.last.result c.args.vsn c.if-last-vsn.true) c.loop-channel.invariant
+    let vsns = (g.S.Store.contents c.args.store.now).vsns in
+    let fails : nat_le (vsns c.loop-channel.channel) c.args.vsn ≡ false = grind (arith, nat_tests) in
+    number_fails (λ channel. nat_le (vsns channel) c.args.vsn) c.loop-channel.channel c.args.channels _ c.loop-channel-test.true fails c.loop-channel.invariant
 
 pub loop-channel-preserved : goal.loop-channel-preserved
 loop-channel-preserved g c =
-    passed (λ channel. nat_le ((g.S.Store.contents c.args.store.now).vsns channel) c.args.vsn) c.loop-channel.channel max_channels _ c.loop-channel-test.true
-    (ap (λ last. nat_le last c.args.vsn) (sym c.last.ensures) ∙ le-leb c.last.result c.args.vsn c.if-last-vsn.false) c.loop-channel.invariant
+    let vsns = (g.S.Store.contents c.args.store.now).vsns in
+    let passes : nat_le (vsns c.loop-channel.channel) c.args.vsn ≡ true = grind (arith, nat_tests) in
+    number_passes (λ channel. nat_le (vsns channel) c.args.vsn) c.loop-channel.channel c.args.channels _ c.loop-channel-test.true passes c.loop-channel.invariant
 
 pub returns : goal.returns
 returns g c =
-    ended (λ channel. nat_le ((g.S.Store.contents c.args.store.now).vsns channel) c.args.vsn) c.loop-channel.channel max_channels _ c.loop-channel-test.false c.loop-channel.invariant
+    let vsns = (g.S.Store.contents c.args.store.now).vsns in
+    let past : c.args.channels ≤ c.loop-channel.channel = grind (arith, nat_tests) in
+    no_number (λ channel. nat_le (vsns channel) c.args.vsn) c.loop-channel.channel c.args.channels _ past c.loop-channel.invariant
