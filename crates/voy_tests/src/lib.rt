@@ -17,6 +17,8 @@ mod contents;
 #[cfg(test)]
 mod disk_calls;
 #[cfg(test)]
+mod epochs;
+#[cfg(test)]
 mod flaky_host;
 #[cfg(test)]
 mod journals;

@@ -47,7 +47,7 @@ fn try_draw(
 {
     let alloc = rt.alloc();
     let vsn = store.last(3).saturating_add(1);
-    let payload = events(alloc, 3, drawn(alloc, vsn, draw)?.as_str())?;
+    let payload = events(alloc, 3, drawn_change(alloc, vsn, draw)?.as_str())?;
     let change = only_change(alloc, schema, payload.as_slice())?;
     let found = commit(alloc, schema, store, payload.as_slice())?;
     let taken = match (found, plain.fits(&change)) {
@@ -64,7 +64,7 @@ fn try_draw(
 }
 
 /// A change of one of four rows, whose emails are three.
-fn drawn(alloc: Global, vsn: u64, draw: &mut u64) -> Result<String, AllocError> {
+pub(crate) fn drawn_change(alloc: Global, vsn: u64, draw: &mut u64) -> Result<String, AllocError> {
     let kind = ["c", "u", "d"][next(draw, 3)];
     let id = ["1", "2", "3", "4"][next(draw, 4)];
     let email = ["a", "b", "c"][next(draw, 3)];
@@ -73,7 +73,7 @@ fn drawn(alloc: Global, vsn: u64, draw: &mut u64) -> Result<String, AllocError> 
 }
 
 /// A number below `limit`.
-fn next(draw: &mut u64, limit: usize) -> usize
+pub(crate) fn next(draw: &mut u64, limit: usize) -> usize
     requires { 0 < limit }
     ensures { result < limit }
 {
@@ -84,7 +84,7 @@ fn next(draw: &mut u64, limit: usize) -> usize
 }
 
 /// The one change of a payload.
-fn only_change(alloc: Global, schema: &Schema, payload: &[u8]) -> Result<Change, Fail> {
+pub(crate) fn only_change(alloc: Global, schema: &Schema, payload: &[u8]) -> Result<Change, Fail> {
     let Some(Txn::Events { items, .. }) = read_txn(alloc, schema, payload)? else {
         return Err("no events".into());
     };
@@ -94,7 +94,7 @@ fn only_change(alloc: Global, schema: &Schema, payload: &[u8]) -> Result<Change,
     }
 }
 
-fn apply(plain: &mut Plain, change: Change) -> Result<u64, Fail> {
+pub(crate) fn apply(plain: &mut Plain, change: Change) -> Result<u64, Fail> {
     if !well_formed(plain.schema(), &change) {
         return Err("a change of another schema".into());
     }

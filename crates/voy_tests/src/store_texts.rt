@@ -95,6 +95,15 @@ pub(crate) fn events(alloc: Global, channel: u32, changes: &str) -> Result<Bytes
     Ok(payload)
 }
 
+/// The payload of an epoch.
+pub(crate) fn epoch(alloc: Global, vsn: u64, channels: u32) -> Result<Bytes, Fail> {
+    let mut payload = Bytes::new(alloc);
+    payload.push(b'N')?;
+    payload.append_slice(&vsn.to_be_bytes())?;
+    payload.append_slice(&channels.to_be_bytes())?;
+    Ok(payload)
+}
+
 /// Appends a length of four bytes.
 fn push_length(length: usize, to: &mut Bytes) -> Result<(), Fail> {
     let Ok(length) = u32::try_from(length) else {

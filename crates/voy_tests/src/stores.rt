@@ -14,12 +14,12 @@ use voy_txn::Store;
 const NAME: &str = "store.journal";
 
 /// How many calls of a disk the opening of an absent journal takes, and a commit.
-const OPENING_CALLS: u64 = 5;
+pub(crate) const OPENING_CALLS: u64 = 5;
 
-const COMMIT_CALLS: u64 = 4;
+pub(crate) const COMMIT_CALLS: u64 = 4;
 
 /// How many outages are tried at each call.
-const CHOICES: u64 = 50;
+pub(crate) const CHOICES: u64 = 50;
 
 /// The journal of a store that took the batch: an open gate, 25 bytes, and a closed gate.
 const BATCH_JOURNAL: &[u8] = b"\x01\0\0\0\x19B\0\0\0\0\0\0\0\x01\0\0\0\x02\0\0\0\x081,a\n2,b\n\0";
@@ -159,7 +159,7 @@ fn try_fault_at_commit(rt: &(impl Abort + AllocGlobal), call: u64) -> Result<(),
     Ok(())
 }
 
-fn opened<D: Disk + Drop>(alloc: Global, schema: &Schema, disk: D) -> Result<JournalStore<D>, Fail>
+pub(crate) fn opened<D: Disk + Drop>(alloc: Global, schema: &Schema, disk: D) -> Result<JournalStore<D>, Fail>
     ensures schema { IfOk result (λ store. ⟦<JournalStore<D> as Store>⟧.schema store ≡ schema.now.tables) }
     ensures live { IfOk result (λ store. ⟦<JournalStore<D> as Store>⟧.is_live store ≡ true) }
     ensures stands { IfOk result (λ store. ⟦<JournalStore<D> as Store>⟧.stands store) }

@@ -7,7 +7,7 @@ use Rattle.std.proofs.lemmas.List.{length-append}
 use Rattle.std.proofs.lemmas.List.Elements.{filter_map-append}
 use Rattle.voy_schema.specs.declared.table.Table.{Table}
 use Rattle.voy_schema.specs.declared.value.Value.{Value}
-use Rattle.voy_txn.specs.BatchRows.{batch_in, batches_in, rows_in_batches, rows_of_batches}
+use Rattle.voy_txn.specs.BatchRows.{are_batches, batch_in, batches_in, only_batches, rows_in_batches, rows_of_batches}
 use Rattle.voy_txn.specs.Contents.{contents_of, is_batch}
 use Rattle.voy_txn.specs.History.{History, batch_rows_after, batch_rows_of, batches_of, counted}
 use Rattle.voy_txn.specs.declared.txn.Txn.{Txn}
@@ -42,6 +42,23 @@ pub rows_in_batches_stay : (t : ℕ) (history : History) (txn : Txn) → batch_i
     → rows_in_batches t (history ++ txn ∷ []) ≡ rows_in_batches t history
 rows_in_batches_stay t history txn none =
     rows_in_batches-append t history (txn ∷ []) ∙ rw none (append-nil (rows_in_batches t history))
+
+-- ---- the batches among all transactions
+
+pub only_batches_are : (history : History) → are_batches (only_batches history) ≡ true
+only_batches_are [] = refl
+only_batches_are (Load tables ∷ history) = only_batches_are history
+only_batches_are (Batch table batch rows ∷ history) = only_batches_are history
+only_batches_are (Events channel items ∷ history) = only_batches_are history
+only_batches_are (Epoch vsn channels ∷ history) = only_batches_are history
+
+-- what is no batch adds nothing to the batches of a table
+pub batches_in_only : (t : ℕ) (history : History) → batches_in t (only_batches history) ≡ batches_in t history
+batches_in_only t [] = refl
+batches_in_only t (Load tables ∷ history) = batches_in_only t history
+batches_in_only t (Batch table batch rows ∷ history) = ap (cons_option (batch_in t (Batch table batch rows))) (batches_in_only t history)
+batches_in_only t (Events channel items ∷ history) = batches_in_only t history
+batches_in_only t (Epoch vsn channels ∷ history) = batches_in_only t history
 
 -- ---- what a store knows of batches
 

@@ -1,6 +1,6 @@
 -- The batches of one table in a history, and their rows as one list, both in the order in which they were taken.
 use Rattle.std.specs.Prelude.{ℕ, ◌==◌, Bool, List, Option, Some, None, is_some, if◌then◌else◌}
-use Rattle.std.specs.List.{filter_map, flat_map, fold, list_all}
+use Rattle.std.specs.List.{filter, filter_map, flat_map, fold, list_all}
 use Rattle.voy_schema.specs.declared.table.Table.{Table}
 use Rattle.voy_schema.specs.declared.value.Value.{Value}
 use Rattle.voy_tables.specs.Lists.{with_row}
@@ -29,6 +29,10 @@ rows_in_batches t history = rows_of_batches (batches_in t history)
 -- every transaction is a batch
 abbrev pub are_batches : History → Bool
 are_batches history = list_all (λ txn. is_some (batch_of txn)) history
+
+-- the batches of a history, and nothing else
+abbrev pub only_batches : History → History
+only_batches history = filter (λ txn. is_some (batch_of txn)) history
 
 -- a table's rows with further ones, each put at the place of its key, the first in front
 abbrev pub with_rows : Table → List (List Value) → List (List Value) → List (List Value)

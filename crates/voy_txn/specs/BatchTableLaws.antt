@@ -1,6 +1,6 @@
 -- The tables of a history of batches alone: in each table the rows of its batches, put in one after the other.
 use Rattle.std.specs.Prelude.{◌≡◌, ◌<◌, ◌+◌, ◌==◌, ℕ, zero, suc, Bool, true, false, List, [], ◌∷◌, ◌++◌, Option, Some, None, length, map, option_map, refl, slice_get, slice_set, if◌then◌else◌}
-use Rattle.std.specs.List.{fold}
+use Rattle.std.specs.List.{fold, list_all}
 use Rattle.std.proofs.Common.{append_assoc, append-nil, ap, arith, sym, ◌∙◌}
 use lib.Dec.{eqb-suc-suc, eqb-suc-zero, eqb-zero-suc}
 use Rattle.std.proofs.lemmas.Bool.{eqb-true}
@@ -9,10 +9,13 @@ use Rattle.std.proofs.lemmas.List.Sums.{fold-append}
 use Rattle.std.proofs.lemmas.Option.{slice_get_within}
 use Rattle.voy_schema.specs.declared.table.Table.{Table}
 use Rattle.voy_schema.specs.declared.value.Value.{Value}
-use Rattle.voy_tables.specs.Changes.{row_change}
-use Rattle.voy_tables.specs.Lists.{empty_lists, fold_lists, lists_after, rows_in, with_row}
+use Rattle.voy_tables.specs.Changes.{RowId, is_well_formed, row_change}
+use Rattle.voy_tables.specs.Laws.{EmptyListsHaveNoRows, FoldsAgree}
+use Rattle.voy_tables.specs.Lists.{empty_lists, fold_lists, lists_after, look, rows_in, with_row}
+use Rattle.voy_tables.specs.Tables.{Tables, fold_changes, no_rows}
 use Rattle.voy_tables.specs.declared.change.Change.TheVariants.{Insert}
 use Rattle.voy_txn.specs.BatchRows.{are_batches, rows_in_batches, with_rows}
+use Rattle.voy_txn.specs.CleanLaws.{empty_are_clean}
 use Rattle.voy_txn.specs.History.{History, tables_after, tables_of}
 use Rattle.voy_txn.specs.Items.{inserts_from}
 use Rattle.voy_txn.specs.LoadLaws.{fold_lists-append}
@@ -181,3 +184,19 @@ batches_are_inserts schema history tables all same = same_gets _ _ (λ n. tables
       → option_map (λ t. with_rows t [] (rows_in_batches n history)) found ≡ option_map (λ t. with_rows t [] (rows_from 0 tables n)) found
   by n None is = refl
   by n (Some t) is = ap (λ (rows : List (List Value)). Some (with_rows t [] rows)) (same n (slice_get_within schema n t is) ∙ sym (rows_from-at 0 tables n n (omega arith)))
+
+-- ---- the same as tables of rows by key
+
+-- lawful rows in batches leave the tables that their inserts make of none
+pub batches_fold : FoldsAgree → EmptyListsHaveNoRows
+    → (schema : List Table) (history : History) (tables : List (List (List Value))) → are_batches history ≡ true
+    → ((n : ℕ) → n < length schema → rows_in_batches n history ≡ rows_in (slice_get tables n))
+    → list_all (is_well_formed schema) (inserts_from 0 tables) ≡ true
+    → (id : RowId) → look schema (tables_of schema history) id ≡ fold_changes no_rows (map (row_change schema) (inserts_from 0 tables)) id
+batches_fold folds_law no_rows_law schema history tables all same formed id =
+    ap (λ (lists : List (List (List Value))). look schema lists id) (batches_are_inserts schema history tables all same)
+    ∙ (folds_law schema (empty_lists schema) (inserts_from 0 tables) (empty_are_clean no_rows_law schema).stand formed).give id
+    ∙ ap (λ (start : Tables). fold_changes start (map (row_change schema) (inserts_from 0 tables)) id) none
+  where
+    none : look schema (empty_lists schema) ≡ no_rows
+    none = λ i at. no_rows_law schema at i

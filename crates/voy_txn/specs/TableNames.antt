@@ -1,5 +1,5 @@
--- Which tables a transaction names, by their places in the schema.
-use Rattle.std.specs.Prelude.{◌≡◌, ℕ, Bool, true, List, [], ◌∷◌, Option, Some, None, length, nat_lt, refl, slice_get}
+-- Which tables a transaction names, by their places in the schema, and which channel.
+use Rattle.std.specs.Prelude.{◌≡◌, ◌<◌, ℕ, Bool, true, List, [], ◌∷◌, Option, Some, None, length, nat_lt, refl, slice_get}
 use Rattle.std.specs.List.{list_all}
 use Rattle.std.proofs.lemmas.Bool.{and_from, and_parts, lt-ltb}
 use Rattle.std.proofs.lemmas.Option.{slice_get_within}
@@ -9,7 +9,7 @@ use Rattle.voy_tables.specs.Changes.{is_row_of, is_well_formed, table_of}
 use Rattle.voy_tables.specs.declared.change.Change.{Change}
 use Rattle.voy_tables.specs.declared.change.Change.TheVariants.{Insert, Update, Delete}
 use Rattle.voy_txn.specs.Items.{items_of}
-use Rattle.voy_txn.specs.LawfulTxn.{AreRowsOf, IsLawfulTxn}
+use Rattle.voy_txn.specs.LawfulTxn.{AreRowsOf, IsLawfulTxn, max_channels}
 use Rattle.voy_txn.specs.LoadLaws.{items_are_well_formed}
 use Rattle.voy_txn.specs.declared.txn.Txn.{Txn}
 use Rattle.voy_txn.specs.declared.txn.Txn.TheVariants.{Load, Batch, Events, Epoch}
@@ -31,6 +31,13 @@ NamesTables count (Load tables) = Unit {0}
 NamesTables count (Batch table batch rows) = nat_lt table count ≡ true
 NamesTables count (Events channel items) = are_below count (items_of (Events channel items)) ≡ true
 NamesTables count (Epoch vsn channels) = Unit {0}
+
+-- the channel of events is one of those that there may be
+abbrev pub IsInChannels : Txn → Type 0
+IsInChannels (Load tables) = Unit {0}
+IsInChannels (Batch table batch rows) = Unit {0}
+IsInChannels (Events channel items) = channel < max_channels
+IsInChannels (Epoch vsn channels) = Unit {0}
 
 -- where a row is of the table at a place, there is that place
 row_within : (schema : List Table) (place : ℕ) (row : List Value) → is_row_of (slice_get schema place) row ≡ true → nat_lt place (length schema) ≡ true
@@ -63,3 +70,10 @@ names_tables schema (Batch table batch rows) lawful = by (slice_get schema table
   by (Some t) is of = lt-ltb table (length schema) (slice_get_within schema table t is)
 names_tables schema (Events channel items) lawful = items_are_below schema (Events channel items) lawful
 names_tables schema (Epoch vsn channels) lawful = tt
+
+-- and a channel that there may be
+pub is_in_channels : (schema : List Table) (txn : Txn) → IsLawfulTxn schema txn → IsInChannels txn
+is_in_channels schema (Load tables) lawful = tt
+is_in_channels schema (Batch table batch rows) lawful = tt
+is_in_channels schema (Events channel items) lawful = lawful.within
+is_in_channels schema (Epoch vsn channels) lawful = tt
