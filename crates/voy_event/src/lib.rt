@@ -10,19 +10,25 @@
 //! object in byte order. [`events_read_back`] is the law that it reads back as the same event.
 #![tactic(auto)]
 
+mod behind;
+mod by_name;
+mod canonical;
 mod change_line;
 mod event;
 mod event_line;
 mod fields;
+mod guessing;
 mod laws;
 mod limits;
 mod line_error;
 mod line_text;
 mod recorded;
 mod recorded_line;
+mod same_line;
 mod words;
 
 pub use event::{Event, Events, What};
+pub use canonical::read_canonical;
 pub use event_line::read_line;
 pub use laws::{events_read_back, lines_stand_in_segments};
 pub use limits::{CLOSING_LINE, MAX_EVENT_LINE_BYTES, MAX_RECORDED_LINE_BYTES, is_closing_line};
