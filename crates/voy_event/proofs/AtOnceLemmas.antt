@@ -1,6 +1,6 @@
 -- A line that is read at once is the canonical line of its event, and reads as the event.
 use Rattle.std.proofs.Common.{◌≡◌, ◌∙◌, ℕ, ◌≤◌, List, [], ◌∷◌, true, arith, Bool, Option, Some, None, Ok, Err, ap, length, option_and_then, refl, slice_get, subst, sym}
-use Rattle.std.specs.Prelude.{codes, if◌then◌else◌}
+use Rattle.std.specs.Prelude.{if◌then◌else◌}
 use Rattle.std.specs.Result.{result_ok}
 use Rattle.std.specs.Str.{bytes_eq}
 use Rattle.std.proofs.lemmas.Slice.Eq.{bytes_eq-Decides}
@@ -10,16 +10,13 @@ use Rattle.voy_schema.specs.Lawful.{is_lawful}
 use Rattle.voy_schema.specs.declared.table.Table.{Table}
 use Rattle.voy_tables.specs.Changes.{is_well_formed, table_of}
 use Rattle.voy_tables.specs.declared.change.Change.{Change}
-use Rattle.voy_tables.specs.declared.change.Change.TheVariants as change
 use Rattle.voy_tables.specs.declared.change.Role.{Role}
-use Rattle.voy_tables.specs.declared.change.Role.TheVariants as exporter
 use Rattle.voy_event.proofs.ReadBack.{belongs_to, events_read_back, rows_of}
 use Rattle.voy_event.specs.CanonicalLine.{canonical_reading, if_canonical}
 use Rattle.voy_event.specs.EventLine.{line_reading, max_event_line_bytes}
 use Rattle.voy_event.specs.LawfulEvent.{IsLawful}
 use Rattle.voy_event.specs.LineParts.{HasRowsOf, names_part, rows_part}
 use Rattle.voy_event.specs.LineText.{change_data, change_data_in, line_text}
-use Rattle.voy_event.specs.Words.{text_of_role}
 use Rattle.voy_event.specs.declared.event.Event.{Event}
 use Rattle.voy_event.specs.declared.event.What.TheVariants as what
 use Rattle.voy_event.specs.declared.line_error.LineWhy.{LineWhy}

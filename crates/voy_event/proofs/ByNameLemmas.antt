@@ -1,5 +1,5 @@
 -- An object that is put together column by column has its columns by ascending name.
-use Rattle.std.proofs.Common.{◌≡◌, ◌∙◌, ℕ, zero, suc, ◌+◌, ◌<◌, List, [], ◌∷◌, ◌++◌, drop, get_or, slice_set, take, Bool, true, false, Option, Some, None, ap, arith, length, ltb-true, nat_lt, not, refl, slice_get, subst, sym}
+use Rattle.std.proofs.Common.{◌≡◌, ◌∙◌, ℕ, zero, suc, ◌+◌, ◌<◌, List, [], ◌∷◌, ◌++◌, drop, get_or, slice_set, take, true, Option, ap, arith, length, ltb-true, nat_lt, not, refl, slice_get, subst, sym}
 use Rattle.std.proofs.lemmas.Bool.{and_parts}
 use Rattle.std.proofs.lemmas.Map.Text.{is_eq-slice_cmp}
 use Rattle.std.proofs.lemmas.Slice.Eq.{bytes_eq-Decides}
@@ -9,7 +9,7 @@ use Rattle.std.specs.Option.{option_map_or}
 use Rattle.std.specs.Ordering.{is_eq, match_ordering, nat_cmp}
 use Rattle.std.specs.declared.cmp.Ordering.{Ordering}
 use Rattle.std.specs.declared.cmp.Ordering.TheVariants.{Less, Equal, Greater}
-use Rattle.serde_json.specs.Data.{Data, Members, no_members, member, put, string}
+use Rattle.serde_json.specs.Data.{Data, no_members, member, put, string}
 use Rattle.voy_schema.specs.Lawful.{is_lawful_table}
 use Rattle.voy_schema.specs.LawfulLaws.{table_parts}
 use Rattle.voy_schema.specs.Rows.{has_lawful_values, is_lawful_row, is_null, text_of, value_at, value_or_null, values_at}

@@ -214,12 +214,7 @@ fn behind_comma(later: bool, line: &[u8]) -> Option<&[u8]>
 }
 
 /// What stands behind the name of the column at this place, and the row's value there.
-fn behind_member<'a>(
-    columns: &[Column],
-    place: u32,
-    row: &Row,
-    line: &'a [u8],
-) -> Option<&'a [u8]>
+fn behind_member<'a>(columns: &[Column], place: u32, row: &Row, line: &'a [u8]) -> Option<&'a [u8]>
     ensures { IfSome result (λ rest. line.now ≡ quoted (name_at columns.now place) ++ 58 ∷ (compact_text (value_in row.now place) ++ rest.now)) }
 {
     let colon = behind_text(line, name_at(columns, place))?;

@@ -1,4 +1,4 @@
-use Rattle.std.proofs.Common.{◌≡◌, IfSome, length, arith}
+use Rattle.std.proofs.Common.{◌≡◌, length, arith}
 use Rattle.std.proofs.lemmas.Bool.Decides.{nat_tests}
 use Rattle.voy_event.specs.LineParts.{names_part, rows_part}
 use Rattle.voy_event.proofs.AtOnceLemmas.{whole_line}

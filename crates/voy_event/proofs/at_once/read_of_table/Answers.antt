@@ -1,7 +1,7 @@
-use Rattle.std.proofs.Common.{◌≡◌, true, IfSome, rules}
+use Rattle.std.proofs.Common.{◌≡◌, true, rules}
 use Rattle.voy_tables.specs.Changes.{table_of}
 use Rattle.voy_event.proofs.AtOnceLemmas.{text_of_event}
-use Rattle.voy_event.proofs.canonical.read_of_table.Goals as goal
+use Rattle.voy_event.proofs.at_once.read_of_table.Goals as goal
 
 pub returns-clause-same : goal.returns-clause-same
 returns-clause-same c =

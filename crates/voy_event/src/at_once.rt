@@ -1,74 +1,18 @@
 ghost use Rattle.std.specs.Prelude.{◌≡◌, ◌≤◌, Some, length, slice_get, true, IfOk, IfSome};
-ghost use Rattle.std.specs.Str.{bytes_eq};
 ghost use Rattle.voy_schema.specs.Lawful.{is_lawful_table};
-ghost use Rattle.voy_event.specs.CanonicalLine.{canonical_reading};
 ghost use Rattle.voy_event.specs.EventLine.{max_event_line_bytes};
-ghost use Rattle.voy_event.specs.LawfulEvent.{IsLawful, IsWritable};
+ghost use Rattle.voy_event.specs.LawfulEvent.{IsLawful};
 ghost use Rattle.voy_event.specs.LineText.{line_text};
 
 use crate::by_name::Order;
 use crate::change_line::has_long_row;
 use crate::event::{Event, What};
-use crate::event_line::read_line;
 use crate::guessing::{Guess, guess_change, guess_end};
 use crate::limits::MAX_EVENT_LINE_BYTES;
-use crate::line_error::LineError;
-use crate::line_text::write_line;
 use crate::same_line::is_line_of;
 use std::alloc::{AllocError, Global};
-use voy_schema::{Bytes, Schema, Table};
+use voy_schema::{Schema, Table};
 use voy_tables::well_formed;
-
-/// The event whose canonical line this is, given without its LF. `None` where it is no canonical line.
-///
-/// It takes a canonical line with a change in much less time than [`read_line`] does.
-pub fn read_canonical(
-    alloc: Global,
-    schema: &Schema,
-    line: &[u8],
-) -> Result<Option<Event>, AllocError>
-    ensures { IfOk result (λ found. found ≡ canonical_reading schema.now.tables line.now) }
-{
-    match read_at_once(alloc, schema, line)? {
-        Some(event) => Ok(Some(event)),
-        None => read_and_compare(alloc, schema, line),
-    }
-}
-
-fn read_and_compare(
-    alloc: Global,
-    schema: &Schema,
-    line: &[u8],
-) -> Result<Option<Event>, AllocError>
-    ensures { IfOk result (λ found. found ≡ canonical_reading schema.now.tables line.now) }
-{
-    match read_line(alloc, schema, line) {
-        Ok(event) => {
-            if is_written_as(alloc, schema, &event, line)? {
-                Ok(Some(event))
-            } else {
-                Ok(None)
-            }
-        }
-        Err(LineError::Bad(_)) => Ok(None),
-        Err(LineError::NoMemory) => Err(AllocError),
-    }
-}
-
-/// Whether `line` is the canonical line of the event.
-fn is_written_as(
-    alloc: Global,
-    schema: &Schema,
-    event: &Event,
-    line: &[u8],
-) -> Result<bool, AllocError>
-    requires { IsWritable schema.now.tables event.now }
-    ensures { IfOk result (λ b. b ≡ bytes_eq (line_text schema.now.tables event.now) line.now) }
-{
-    let mut canonical = Bytes::new(alloc);
-    write_line(alloc, schema, event, &mut canonical)?;
-    Ok(canonical.as_slice() == line)
-}
 
 /// The event with a change whose canonical line this is. Its parts are guessed by their places, and what comes of
 /// them is compared with the whole line. `None` where that fails, which says nothing of the line.

@@ -1,7 +1,7 @@
 use Rattle.std.proofs.Common.{◌≡◌, ◌∙◌, Err, true, false, sym, rules}
 use Rattle.voy_event.specs.EventLine.{line_reading}
 use Rattle.voy_event.proofs.AtOnceLemmas.{canonical_by, not_canonical}
-use Rattle.voy_event.proofs.canonical.read_and_compare.Goals as goal
+use Rattle.voy_event.proofs.reading.read_and_compare.Goals as goal
 
 pub returns-then-branch : goal.returns-then-branch
 returns-then-branch c =
