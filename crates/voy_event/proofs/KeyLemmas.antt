@@ -78,7 +78,7 @@ texts_kept t row name (place ∷ places) ms other =
     texts_kept t row name places (with_text (slice_get t.columns place) (text_of (value_at row place)) ms) parts.1
     ∙ text_kept name (slice_get t.columns place) (text_of (value_at row place)) ms parts.0
 
-column_there : (cs : List Column) (place : ℕ) → place < length cs → (c : Column) × (slice_get cs place ≡ Some c)
+pub column_there : (cs : List Column) (place : ℕ) → place < length cs → (c : Column) × (slice_get cs place ≡ Some c)
 column_there [] place within = absurd (omega arith)
 column_there (c ∷ cs) zero within = (c, refl)
 column_there (c ∷ cs) (suc place) within = column_there cs place (omega arith)

@@ -1,6 +1,9 @@
 pub mod FloatLemmas
 pub mod MemberLemmas
 pub mod KeyLemmas
+pub mod ByNameLemmas
+pub mod PieceLemmas
 pub mod CanonicalLemmas
 pub mod ReadBack
+pub mod AtOnceLemmas
 pub mod LineLemmas

@@ -12,4 +12,7 @@ pub mod ChangeLaws
 pub mod EventLaws
 pub mod RecordedLaws
 pub mod LineText
+pub mod CanonicalLine
+pub mod ByName
+pub mod LineParts
 pub mod Laws

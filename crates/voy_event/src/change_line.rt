@@ -154,7 +154,7 @@ fn delete_of(alloc: Global, placed: &Placed, line: &Json) -> Result<Option<Chang
     }))
 }
 
-fn has_long_row(change: &Change) -> bool
+pub(crate) fn has_long_row(change: &Change) -> bool
     ensures { result ≡ has_long_row change.now }
 {
     match change {

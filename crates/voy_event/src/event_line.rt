@@ -32,11 +32,12 @@ const CHANGE_EVENT_NAMES: [&str; 8] = [
 /// The names of a cutover's line.
 const CUTOVER_NAMES: [&str; 3] = ["exporter_role", "op", "vsn"];
 
-/// The event that a line states, given without its LF. Of a name that an object gives twice the last
-/// counts, and names may come in any order.
-///
-/// A line without a reading is `Bad` with the first cause that holds, in the order of [`LineWhy`].
-pub fn read_line(alloc: Global, schema: &Schema, bytes: &[u8]) -> Result<Event, LineError>
+/// The same as [`read_line`](crate::read_line), by the rules of a line, one after the other.
+pub(crate) fn read_by_rules(
+    alloc: Global,
+    schema: &Schema,
+    bytes: &[u8],
+) -> Result<Event, LineError>
     ensures ok { IfOk result (λ event. line_reading schema.now.tables bytes.now ≡ Ok event) }
     ensures err { IfErr result (Refuses cause_of (line_reading schema.now.tables bytes.now)) }
     ensures lawful { IfOk result (IsLawful schema.now.tables) }

@@ -10,23 +10,29 @@
 //! object in byte order. [`events_read_back`] is the law that it reads back as the same event.
 #![tactic(auto)]
 
+mod at_once;
+mod behind;
+mod by_name;
 mod change_line;
 mod event;
 mod event_line;
 mod fields;
+mod guessing;
 mod laws;
 mod limits;
 mod line_error;
 mod line_text;
+mod reading;
 mod recorded;
 mod recorded_line;
+mod same_line;
 mod words;
 
 pub use event::{Event, Events, What};
-pub use event_line::read_line;
 pub use laws::{events_read_back, lines_stand_in_segments};
 pub use limits::{CLOSING_LINE, MAX_EVENT_LINE_BYTES, MAX_RECORDED_LINE_BYTES, is_closing_line};
 pub use line_error::{LineError, LineWhy};
 pub use line_text::write_line;
+pub use reading::{read_canonical, read_line};
 pub use recorded::Recorded;
 pub use recorded_line::read_change;

@@ -91,7 +91,7 @@ fn cutover_value(alloc: Global, op: &str, vsn: u64, role: Role) -> Result<Json, 
     json!(in alloc; {"exporter_role": role_text, "op": op, "vsn": vsn})
 }
 
-fn op_text(change: &Change) -> &'static str
+pub(crate) fn op_text(change: &Change) -> &'static str
     ensures { result.now ≡ op_text change.now }
 {
     match change {
@@ -102,7 +102,7 @@ fn op_text(change: &Change) -> &'static str
 }
 
 /// A row of the change, whose key is the key of each.
-fn keyed_row(change: &Change) -> &Row
+pub(crate) fn keyed_row(change: &Change) -> &Row
     ensures { result.now ≡ keyed_row change.now }
 {
     match change {

@@ -1,5 +1,5 @@
 -- The changes of a payload: what is read of them is what was written of them.
-use Rattle.std.proofs.Common.{◌≡◌, ℕ, zero, suc, ◌≤◌, ◌<◌, ◌^◌, Bool, true, false, cond, ◌&&◌, List, [], ◌∷◌, ◌++◌, length, Option, Some, None, Result, Ok, refl, sym, ap, subst, ◌∙◌, arith}
+use Rattle.std.proofs.Common.{◌≡◌, ℕ, zero, suc, ◌≤◌, ◌<◌, ◌^◌, Bool, true, false, cond, ◌&&◌, List, [], ◌∷◌, ◌++◌, length, Option, Some, None, Result, Ok, option_and_then, refl, sym, ap, subst, ◌∙◌, arith}
 use Rattle.std.specs.List.{AllByRecursion, flat_map}
 use Rattle.std.specs.Result.{result_ok}
 use Rattle.std.specs.Str.{bytes_eq}
@@ -8,12 +8,12 @@ use Rattle.std.proofs.lemmas.Slice.Eq.{bytes_eq-Decides}
 use Rattle.voy_schema.specs.Lawful.{is_lawful}
 use Rattle.voy_schema.specs.declared.table.Table.{Table}
 use Rattle.voy_event.specs.Laws.{EventsReadBack}
+use Rattle.voy_event.specs.CanonicalLine.{canonical_reading, if_canonical}
 use Rattle.voy_event.specs.EventLaws.{event_is_lawful, line_is_short}
 use Rattle.voy_event.specs.EventLine.{line_reading, max_event_line_bytes}
 use Rattle.voy_event.specs.LineText.{line_text}
 use Rattle.voy_event.specs.declared.event.Event.{Event}
 use Rattle.voy_event.specs.declared.line_error.LineWhy.{LineWhy}
-use Rattle.voy_event.specs.declared.line_error.LineWhy.TheVariants as why
 use Rattle.voy_txn.specs.LawfulTxn.{IsLawfulItem, ascend_above}
 use Rattle.voy_event.specs.Events.{is_change}
 use Rattle.voy_txn.specs.Payload.{item_part, sized}
@@ -48,24 +48,35 @@ item_again by_lines schema item lawful has =
     ap (λ (r : Result Event LineWhy). result_ok r >>= λ (e : Event). cond (is_change e.what && bytes_eq (line_text schema e) text) (Some e) None) read
     ∙ ap (λ (b : Bool). cond b (Some item) None) both
 
--- what the reading of a line gives, by the event that it states
-item_by : (schema : List Table) (line : List ℕ) (item : Event) (b : Bool) → result_ok (line_reading schema line) ≡ Some item
-    → (is_change item.what && bytes_eq (line_text schema item) line) ≡ b → item_of schema line ≡ cond b (Some item) None
-unfolding item_of
-item_by schema line item b stated is =
-    ap (λ (o : Option Event). o >>= λ (e : Event). cond (is_change e.what && bytes_eq (line_text schema e) line) (Some e) None) stated
+-- the change of a line, by the event whose canonical line it is
+item_by : (schema : List Table) (line : List ℕ) → item_of schema line ≡ (canonical_reading schema line >>= λ (e : Event). cond (is_change e.what) (Some e) None)
+unfolding item_of canonical_reading
+item_by schema line = by_event (result_ok (line_reading schema line)) where
+  with_true : (e : Event) (c : Bool) → cond (c && true) (Some e) None ≡ cond c (Some e) None
+  with_true e true = refl
+  with_true e false = refl
+
+  with_false : (e : Event) (c : Bool) → cond (c && false) (Some e) None ≡ None
+  with_false e true = refl
+  with_false e false = refl
+
+  by_line : (e : Event) (b : Bool) → cond (is_change e.what && b) (Some e) None ≡ (cond b (Some e) None >>= λ (x : Event). cond (is_change x.what) (Some x) None)
+  by_line e true = with_true e (is_change e.what)
+  by_line e false = with_false e (is_change e.what)
+
+  by_event : (o : Option Event) → (o >>= λ (e : Event). cond (is_change e.what && bytes_eq (line_text schema e) line) (Some e) None)
+      ≡ (option_and_then (if_canonical schema line) o >>= λ (e : Event). cond (is_change e.what) (Some e) None)
+  by_event None = refl
+  by_event (Some e) = by_line e (bytes_eq (line_text schema e) line)
+
+pub item_is : (schema : List Table) (line : List ℕ) (item : Event) (b : Bool) → Some item ≡ canonical_reading schema line → is_change item.what ≡ b
+    → item_of schema line ≡ cond b (Some item) None
+item_is schema line item b canonical is =
+    item_by schema line ∙ ap (λ (o : Option Event). o >>= λ (e : Event). cond (is_change e.what) (Some e) None) (sym canonical)
     ∙ ap (λ (x : Bool). cond x (Some item) None) is
 
-pub item_is : (schema : List Table) (line : List ℕ) (item : Event) → result_ok (line_reading schema line) ≡ Some item
-    → is_change item.what ≡ true → bytes_eq (line_text schema item) line ≡ true → item_of schema line ≡ Some item
-item_is schema line item stated change canonical = item_by schema line item true stated (and_from _ _ change canonical)
-
-pub item_is_none : (schema : List Table) (line : List ℕ) (item : Event) → result_ok (line_reading schema line) ≡ Some item
-    → bytes_eq (line_text schema item) line ≡ false → item_of schema line ≡ None
-item_is_none schema line item stated other = item_by schema line item false stated (ap (λ b. is_change item.what && b) other ∙ nothing (is_change item.what)) where
-  nothing : (b : Bool) → (b && false) ≡ false
-  nothing true = refl
-  nothing false = refl
+pub item_is_none : (schema : List Table) (line : List ℕ) → None ≡ canonical_reading schema line → item_of schema line ≡ None
+item_is_none schema line other = item_by schema line ∙ ap (λ (o : Option Event). o >>= λ (e : Event). cond (is_change e.what) (Some e) None) (sym other)
 
 pub items_take : (schema : List Table) (count : ℕ) (bytes : List ℕ) (items : List Event) → AreBytes bytes → items_of schema count bytes ≡ Some items
     → AllByRecursion (IsLawfulItem schema) items × (length items ≡ count) × (bytes ≡ flat_map (item_part schema) items)

@@ -1,10 +1,5 @@
-ghost use Rattle.std.specs.Prelude.{◌≡◌, ◌++◌, OnOk, IfOk};
+ghost use Rattle.std.specs.Prelude.{◌≡◌, ◌++◌, OnOk};
 ghost use Rattle.std.specs.List.{AllByRecursion, flat_map};
-ghost use Rattle.std.specs.Result.{result_ok};
-ghost use Rattle.std.specs.Str.{bytes_eq};
-ghost use Rattle.voy_event.specs.EventLine.{line_reading};
-ghost use Rattle.voy_event.specs.LawfulEvent.{IsLawful, IsWritable};
-ghost use Rattle.voy_event.specs.LineText.{line_text};
 ghost use Rattle.voy_txn.specs.LawfulTxn.{IsLawfulItem};
 ghost use Rattle.voy_event.specs.Events.{is_change};
 ghost use Rattle.voy_txn.specs.Payload.{item_part};
@@ -14,20 +9,8 @@ use crate::ascending::ascend_above;
 use crate::fields::{push_sized, sized_of};
 use crate::unread::Unread;
 use std::alloc::{AllocError, Global};
-use voy_event::{Event, Events, LineError, What, read_line, write_line};
+use voy_event::{Event, Events, What, read_canonical, write_line};
 use voy_schema::{Bytes, Schema};
-
-/// The event that `line` states.
-fn event_of(alloc: Global, schema: &Schema, line: &[u8]) -> Result<Event, Unread>
-    ensures stated { Gives (λ event. event) result (result_ok (line_reading schema.now.tables line.now)) }
-    ensures lawful { IfOk result (IsLawful schema.now.tables) }
-{
-    match read_line(alloc, schema, line) {
-        Ok(event) => Ok(event),
-        Err(LineError::Bad(_)) => Err(Unread::NoPayload),
-        Err(LineError::NoMemory) => Err(Unread::NoMemory),
-    }
-}
 
 fn is_change(what: &What) -> bool
     ensures { result ≡ is_change what.now }
@@ -35,31 +18,14 @@ fn is_change(what: &What) -> bool
     matches!(what, What::Change(_))
 }
 
-/// Whether `line` is the canonical line of the event.
-fn is_canonical(
-    alloc: Global,
-    schema: &Schema,
-    event: &Event,
-    line: &[u8],
-) -> Result<bool, AllocError>
-    requires { IsWritable schema.now.tables event.now }
-    ensures { IfOk result (λ b. b ≡ bytes_eq (line_text schema.now.tables event.now) line.now) }
-{
-    let mut canonical = Bytes::new(alloc);
-    write_line(alloc, schema, event, &mut canonical)?;
-    Ok(canonical.as_slice() == line)
-}
-
 /// The change that `line` states, where it is the canonical line.
-#[tactic(auto, using(voy_event::specs::EventLaws::lawful_is_writable), unfolding(crate::specs::Reading::item_of))]
 fn item_of(alloc: Global, schema: &Schema, line: &[u8]) -> Result<Event, Unread>
     ensures { Gives (λ item. item) result (item_of schema.now.tables line.now) }
 {
-    let item = event_of(alloc, schema, line)?;
-    if !is_change(&item.what) {
+    let Some(item) = read_canonical(alloc, schema, line)? else {
         return Err(Unread::NoPayload);
-    }
-    if !is_canonical(alloc, schema, &item, line)? {
+    };
+    if !is_change(&item.what) {
         return Err(Unread::NoPayload);
     }
     Ok(item)

@@ -10,7 +10,7 @@ use Rattle.voy_event.specs.Refusal.{cause_of}
 use Rattle.voy_event.specs.declared.event.Event.{Event}
 use Rattle.voy_event.specs.declared.line_error.LineError.{LineError}
 use Rattle.voy_event.specs.declared.line_error.LineError.TheVariants.{Bad, NoMemory}
-use Rattle.voy_event.proofs.event_line.read_line.Goals as goal
+use Rattle.voy_event.proofs.event_line.read_by_rules.Goals as goal
 
 read_ok : (tables : List Table) (bytes : List ℕ) (r : Result Event LineError)
     → IfOk r (λ e. line_in_turn tables bytes ≡ Ok e) → IfOk r (λ e. line_reading tables bytes ≡ Ok e)
