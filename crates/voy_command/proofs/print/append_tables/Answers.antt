@@ -7,7 +7,7 @@ use Rattle.voy_command.proofs.print.append_tables.Goals as goal
 pub loop-place-preserved : goal.loop-place-preserved
 loop-place-preserved c =
     let tables = c.args.tables.now in
-    let same = c.as_slice-table-items.ensures ∙ c.schema.ensures in
+    let same = c.as_slice-table-items.ensures ∙ c.schema-schema.ensures in
     let within : c.loop-place.place < length (schema_in tables) = rw (← same) c.loop-place-test.true in
     let is : c.table-item.result ≡ get_or (schema_in tables) c.loop-place.place c.table-item.result = rw (← same) c.table-item.is in
     let turn = tables_text_turn (schema_in tables) (lists_in tables) c.loop-place.place c.table-item.result (tables_are_clean tables).stand within is in

@@ -4,4 +4,5 @@ use Rattle.voy_command.proofs.fold.Fold.next_event.Goals as goal
 
 pub returns-else-is_next-clause-err : goal.returns-else-is_next-clause-err
 returns-else-is_next-clause-err c =
-    inr (BadValue, rw (c.in-Ok.ensures.ok, sym c.is_next.ensures ∙ c.if-is_next.false) refl, c.line_refusal.ensures)
+    let stated = rw c.schema.ensures at c.in-Ok.ensures.ok in
+    inr (BadValue, rw (stated, sym c.is_next.ensures ∙ c.if-is_next.false) refl, c.line_refusal.ensures)
