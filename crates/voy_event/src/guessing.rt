@@ -5,7 +5,7 @@ use std::alloc::{AllocError, Global};
 use voy_schema::{Bytes, Row, Text, Value};
 use voy_tables::{Change, Role};
 
-/// What the front of a line seems to say. Whether it does, only a comparison with the line tells.
+/// What the front of a line seems to say. Nothing here is proved of it: only a comparison with the line tells.
 #[derive(Drop)]
 pub(crate) struct Guess {
     pub(crate) role: Role,

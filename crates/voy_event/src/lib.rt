@@ -1,13 +1,16 @@
 //! Event lines of the queue and recorded change lines: what they say, and the text that says it.
 //!
-//! [`read_line`] reads an event line by the schema and [`write_line`] writes one; [`read_change`] reads
-//! a line of a recording. A line is a JSON object. Which bytes are which event, and which refusal comes
+//! [`read_line`] reads an event line by the schema and [`write_line`] writes one; [`read_canonical`] takes
+//! just the lines that are written so, and [`read_change`] reads a line of a recording. A line is a JSON
+//! object. Which bytes are which event, and which refusal comes
 //! first where they are none, is one definition, `line_reading` of `specs/EventLine.antt`; for recorded
 //! lines it is `recorded_line_reading` of `specs/RecordedLine.antt`. Both share the rules on changes of
 //! `specs/ChangeLine.antt`. What was read is lawful for the schema (`IsLawful`).
 //!
 //! The text that is written is `line_text` of `specs/LineText.antt`: compact, with the names of every
-//! object in byte order. [`events_read_back`] is the law that it reads back as the same event.
+//! object in byte order. [`events_read_back`] is the law that it reads back as the same event. Such a line
+//! with a change is read at once (`at_once`): the event is guessed (`guessing`), and then its text is
+//! compared with the line (`same_line`). Any other line is read by way of a JSON document (`event_line`).
 #![tactic(auto)]
 
 mod at_once;

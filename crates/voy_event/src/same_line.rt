@@ -16,7 +16,8 @@ use crate::words::text_of_role;
 use voy_schema::{Column, Row, Table, Value};
 use voy_tables::{Change, Role};
 
-/// Whether the line is the canonical one of this change; no, where the line has another order than that.
+/// Whether the line is the canonical one of this change. The clause speaks of a yes alone: a no only means that the
+/// line is read by way of a JSON document.
 pub(crate) fn is_line_of(
     table: &Table,
     order: &Order,
