@@ -1,8 +1,9 @@
-ghost use Rattle.std.specs.Prelude.{◌≡◌, ◌≤◌, ◌++◌, IfErr, OnOk};
+ghost use Rattle.std.specs.Prelude.{◌≡◌, ◌≤◌, ◌++◌, slice_get, IfErr, OnOk};
 ghost use Rattle.voy_disk.specs.Faults.{Rose};
 ghost use Rattle.voy_disk.specs.Written.{GotFront, grown};
 ghost use Rattle.voy_contents.specs.Tables.{lists_in, schema_in};
-ghost use Rattle.voy_report.specs.Show.{tables_text};
+ghost use Rattle.voy_report.specs.Show.{table_text, tables_text};
+ghost use Rattle.voy_tables.specs.Lists.{rows_in};
 ghost use Rattle.voy_command.specs.DryRun.{import_line};
 ghost use Rattle.voy_command.specs.Printing.{IsOutputStop, fold_text};
 
@@ -12,7 +13,7 @@ use std::alloc::{AllocError, Global};
 use voy_contents::Tables;
 use voy_disk::{Sink, SinkError, write_all};
 use voy_report::table_text;
-use voy_schema::Bytes;
+use voy_schema::{Bytes, Table};
 
 /// Prints the fold's tables, and then whether the cutover event was reached. After an error a prefix of
 /// that text was printed.
@@ -51,15 +52,29 @@ fn append_fold(alloc: Global, fold: &Fold, to: &mut Bytes) -> Result<(), AllocEr
     Ok(())
 }
 
-/// Appends the parts of all tables. One table's rows are copied at a time.
+/// Appends the parts of all tables.
 fn append_tables(alloc: Global, tables: &Tables, to: &mut Bytes) -> Result<(), AllocError>
     ensures { OnOk result (to.new ≡ to.old ++ tables_text (schema_in tables.now) (lists_in tables.now)) }
 {
     let schema = tables.schema();
     for (place, table) in schema.tables.as_slice().iter().enumerate() {
-        let rows = tables.rows(place as u32)?;
-        table_text(alloc, table, rows.as_slice(), to)?;
+        append_table(alloc, table, tables, place as u32, to)?;
     }
+    Ok(())
+}
+
+/// Appends the part of the table at this place of the schema, of a copy of its rows.
+fn append_table(
+    alloc: Global,
+    table: &Table,
+    tables: &Tables,
+    place: u32,
+    to: &mut Bytes,
+) -> Result<(), AllocError>
+    ensures { OnOk result (to.new ≡ to.old ++ table_text table.now (rows_in (slice_get (lists_in tables.now) place))) }
+{
+    let rows = tables.rows(place)?;
+    table_text(alloc, table, rows.as_slice(), to)?;
     Ok(())
 }
 

@@ -11,4 +11,4 @@ loop-place-preserved c =
     let within : c.loop-place.place < length (schema_in tables) = rw (← same) c.loop-place-test.true in
     let is : c.table-item.result ≡ get_or (schema_in tables) c.loop-place.place c.table-item.result = rw (← same) c.table-item.is in
     let turn = tables_text_turn (schema_in tables) (lists_in tables) c.loop-place.place c.table-item.result (tables_are_clean tables).stand within is in
-    part_moved _ _ _ _ _ _ c.loop-place.invariant turn c.in_ok-table_text.ensures.ok
+    part_moved _ _ _ _ _ _ c.loop-place.invariant turn c.in_ok-append_table.ensures
