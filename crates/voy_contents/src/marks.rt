@@ -18,7 +18,7 @@ use crate::vsns::Vsns;
 use std::alloc::{AllocError, Global};
 use voy_event::{Event, What};
 use voy_schema::{Items, Schema};
-use voy_txn::{Txn, ascend_above};
+use voy_txn::{MAX_CHANNELS, Txn, ascend_above};
 
 /// What a store knows beside its rows: for each channel its vsn, what the last epoch said, whether the load is there,
 /// and for each table its batches and what they and its changes came to.
@@ -95,7 +95,7 @@ impl Marks {
             Txn::Load { .. } => !self.loaded,
             Txn::Batch { table, number, .. } => !self.has_batch(*table, *number),
             Txn::Events { channel, items } => ascend_above(self.last(*channel), items.as_slice()),
-            Txn::Epoch { vsn, .. } => self.vsns.is_none_above(*vsn),
+            Txn::Epoch { vsn, .. } => self.vsns.is_none_above(MAX_CHANNELS, *vsn),
         }
     }
 

@@ -36,11 +36,11 @@ impl Vsns {
         }
     }
 
-    /// Whether no channel is done further than to `vsn`.
-    pub(crate) fn is_none_above(&self, vsn: u64) -> bool
-        ensures { result ≡ is_none_above (vsns_in self.now) vsn }
+    /// Whether none of the first `channels` is done further than to `vsn`.
+    pub(crate) fn is_none_above(&self, channels: u32, vsn: u64) -> bool
+        ensures { result ≡ is_none_above channels (vsns_in self.now) vsn }
     {
-        for channel in 0..MAX_CHANNELS {
+        for channel in 0..channels {
             if self.last(channel) > vsn {
                 return false;
             }
