@@ -16,7 +16,7 @@ use Rattle.std.specs.declared.cmp.Ordering.TheVariants.{Less, Equal, Greater}
 use Rattle.voy_schema.specs.Rows.{key_of}
 use Rattle.voy_schema.specs.declared.table.Table.{Table}
 use Rattle.voy_schema.specs.declared.value.Value.{Value}
-use Rattle.voy_contents.proofs.SlotLemmas.{behind, is_equal, none_above}
+use Rattle.voy_contents.proofs.PlaceLemmas.{behind, is_equal, none_above}
 use Rattle.voy_contents.specs.MemTables.{RowSlots, are_in_place, is_in_place, row_at, rows_of, standing}
 use Rattle.voy_tables.specs.Keys.{key_cmp, same_key}
 use Rattle.voy_tables.specs.SameLaws.{same_key-decides}

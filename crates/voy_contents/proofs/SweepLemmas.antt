@@ -14,13 +14,13 @@ use Rattle.std.specs.Ordering.{is_eq}
 use Rattle.std.specs.Prelude.{cond, nat_eq, slice_get, slice_set, unwrap_or, if◌then◌else◌}
 use Rattle.voy_schema.specs.declared.table.Table.{Table}
 use Rattle.voy_schema.specs.declared.value.Value.{Value}
-use Rattle.voy_contents.proofs.IndexLemmas.{get_set, length_set}
+use Rattle.voy_contents.proofs.ListLemmas.{get_set, length_set}
 use Rattle.voy_contents.proofs.MemTableLemmas.{keeps_stands}
 use Rattle.voy_contents.proofs.RowLemmas.{row_with_key-row_at}
-use Rattle.voy_contents.proofs.SlotLemmas.{is_equal}
+use Rattle.voy_contents.proofs.PlaceLemmas.{is_equal}
 use Rattle.voy_contents.proofs.TupleLemmas.{tuple_exact, tuple_order}
 use Rattle.voy_contents.specs.MemTables.{IsMemTable, RowSlots, SayTheSame, SweepsRows, TupleSlots, are_in_place, has_tuple, is_in_place, is_listed, row_at, rows_of, standing, tuple_cmp}
-use Rattle.voy_contents.specs.TableSteps.{SweepsLists}
+use Rattle.voy_contents.specs.TableLists.{SweepsLists}
 use Rattle.voy_contents.specs.declared.mem_table.MemTable.{MemTable}
 use Rattle.voy_tables.specs.Keys.{key_cmp}
 use Rattle.voy_tables.specs.Lists.{row_with_key}

@@ -1,10 +1,10 @@
 -- Tuples of rows in places, and indexes that list them.
-use Rattle.std.proofs.Common.{◌≡◌, ℕ, Bool, true, false, List, [], ◌∷◌, Option, Some, None, refl, sym, ap, ◌∙◌, subst, inl, inr}
+use Rattle.std.proofs.Common.{◌≡◌, ℕ, Bool, true, false, List, [], ◌∷◌, Option, Some, None, Result, Ok, Err, OnOk, refl, sym, ap, ◌∙◌, subst, inl, inr}
 use Rattle.std.proofs.lemmas.Bool.{and_from, and_parts, false≢true, false_from_ne_true, not-true, not_from_false, or_cases}
 use Rattle.std.proofs.lemmas.Map.{keys-set_value}
 use Rattle.std.proofs.lemmas.Map.Lookups.{CmpEqualImpliesEq, exact_bytes}
 use Rattle.std.proofs.lemmas.Option.{same_Some}
-use Rattle.std.specs.BTreeMap.{is_at}
+use Rattle.std.specs.BTreeMap.{insert_entry, is_at}
 use Rattle.std.specs.Cmp.{IsTotalOrder, both_ways, tied_itself}
 use Rattle.std.specs.Cmp.Lexicographic.{lists_total}
 use Rattle.std.specs.List.{cons_option, list_any}
@@ -22,8 +22,8 @@ use Rattle.voy_schema.specs.declared.table.UniqueKey.{UniqueKey}
 use Rattle.voy_schema.specs.declared.value.Value.{Value}
 use Rattle.voy_schema.specs.declared.value.Value.TheVariants.{Null, Text}
 use Rattle.voy_contents.proofs.RowLemmas.{exact_lists, in_place-at, key_exact, key_order}
-use Rattle.voy_contents.proofs.SlotLemmas.{Passes, any_at, at_any, is_equal, lookup_set}
-use Rattle.voy_contents.specs.MemTables.{Agrees, AreApart, HasPlace, RowSlots, TupleSlots, are_in_place, has_tuple, is_in_place, is_listed, row_at, rows_of, standing, tuple_cmp, with_listed}
+use Rattle.voy_contents.proofs.PlaceLemmas.{Passes, any_at, at_any, insert_as_set, is_equal, lookup_placed, lookup_set, or_else, placed_there, set_none, with_place}
+use Rattle.voy_contents.specs.MemTables.{Agrees, AreApart, RowSlots, TupleSlots, are_in_place, has_tuple, is_in_place, is_listed, row_at, rows_of, standing, tuple_cmp}
 use Rattle.voy_tables.specs.Keys.{key_cmp, same_key, same_tuple}
 use Rattle.voy_tables.specs.Lists.{is_taken, stands_elsewhere}
 use Rattle.voy_tables.specs.SameLaws.{same_tuple-decides}
@@ -130,6 +130,12 @@ module _ (key : List (List ℕ)) (unique : UniqueKey) (slots : RowSlots) (sorted
       → has_tuple unique values (row_at p slots) ≡ true
   at_key values p value there has = ap (λ v. has_tuple unique values (standing v)) there ∙ has
 
+  -- a row that has a tuple is among all that have it
+  pub own-scan : (values : List Value) → has_tuple unique values (row_at key slots) ≡ true → scan unique values slots ≡ true
+  own-scan values has =
+      let it = has_it values key has in
+      at_any key_order key_exact (λ s. has_tuple unique values s.1) key it.value slots it.there it.has
+
   -- where no two rows have the same tuple, one of another key has it where one has it and that of the key has not
   pub others-scan : AreApart unique slots → (values : List Value)
       → others key unique values slots ≡ (scan unique values slots && not (has_tuple unique values (row_at key slots)))
@@ -229,38 +235,56 @@ module _ (key : List (List ℕ)) (unique : UniqueKey) (slots : RowSlots) (sorted
         by false at_p true at_q has_p has_q = absurd (clash p at_p has_q has_p)
         by false at_p false at_q has_p has_q = apart p q values has_p has_q
 
--- what an index lists after a tuple was set in it
-listed-with : (o : Option (List Value)) (b : Bool) (values : List Value) (index : TupleSlots) → HasPlace o index
-    → is_listed values (with_listed o b index) ≡ cond (same_tuple (Some values) o) b (is_listed values index)
-listed-with None b values index place = sym (ap (λ x. cond x b (is_listed values index)) (same_tuple-nothing values))
-listed-with (Some own) b values index place =
-    ap (λ v. unwrap_or v false) (lookup_set tuple_order tuple_exact own b values index place) ∙ by (is_at (tuple_cmp own) values)
-    ∙ ap (λ x. cond x b (is_listed values index)) (sym same)
+-- a tuple is the same exactly where its place is
+same-place : (own values : List Value) → same_tuple (Some values) (Some own) ≡ is_at (tuple_cmp own) values
+same-place own values = both_ways (same_tuple (Some values) (Some own)) (is_at (tuple_cmp own) values)
+    (λ h. ap (is_at (tuple_cmp own)) (same_Some values own ((same_tuple-decides (Some values) (Some own)).0 h)) ∙ itself_at)
+    (λ at. (same_tuple-decides (Some values) (Some own)).1 (ap Some (sym (tuple_exact own values (is_equal (tuple_cmp own values) at)))))
   where
-    by : (x : Bool) → unwrap_or (cond x (Some b) (lookup (is_at (tuple_cmp values)) index)) false ≡ cond x b (is_listed values index)
-    by true = refl
-    by false = refl
-
     itself_at : is_at (tuple_cmp own) own ≡ true
     itself_at = ap is_eq level where
       level : tuple_cmp own own ≡ Equal
       level = tied_itself tuple_order own
 
-    same : same_tuple (Some values) (Some own) ≡ is_at (tuple_cmp own) values
-    same = both_ways (same_tuple (Some values) (Some own)) (is_at (tuple_cmp own) values)
-        (λ h. ap (is_at (tuple_cmp own)) (same_Some values own ((same_tuple-decides (Some values) (Some own)).0 h)) ∙ itself_at)
-        (λ at. (same_tuple-decides (Some values) (Some own)).1 (ap Some (sym (tuple_exact own values (is_equal (tuple_cmp own values) at)))))
-
--- places stay
-pub place-kept : (o : Option (List Value)) (b : Bool) (other : Option (List Value)) (index : TupleSlots) → HasPlace o index → HasPlace other index → HasPlace other (with_listed o b index)
-place-kept None b other index place there = there
-place-kept (Some own) b None index place there = there
-place-kept (Some own) b (Some values) index place there =
-    subst IsSome (sym (lookup_set tuple_order tuple_exact own b values index place)) (by (is_at (tuple_cmp own) values))
+-- what an index lists after a tuple was set that has a place
+pub listed-set : (own : List Value) (b : Bool) (values : List Value) (index : TupleSlots) → IsSome (lookup (is_at (tuple_cmp own)) index)
+    → is_listed values (set_value (is_at (tuple_cmp own)) index b) ≡ cond (same_tuple (Some values) (Some own)) b (is_listed values index)
+listed-set own b values index place =
+    ap (λ v. unwrap_or v false) (lookup_set tuple_order tuple_exact own b values index place) ∙ by (is_at (tuple_cmp own) values)
+    ∙ ap (λ x. cond x b (is_listed values index)) (sym (same-place own values))
   where
-    by : (x : Bool) → IsSome (cond x (Some b) (lookup (is_at (tuple_cmp values)) index))
+    by : (x : Bool) → unwrap_or (cond x (Some b) (lookup (is_at (tuple_cmp values)) index)) false ≡ cond x b (is_listed values index)
     by true = refl
-    by false = there
+    by false = refl
+
+-- a tuple that is listed no longer, whether it had a place or not
+pub listed-off : (own values : List Value) (index : TupleSlots)
+    → is_listed values (set_value (is_at (tuple_cmp own)) index false) ≡ cond (same_tuple (Some values) (Some own)) false (is_listed values index)
+listed-off own values index = by (lookup (is_at (tuple_cmp own)) index) refl where
+  by : (found : Option Bool) → lookup (is_at (tuple_cmp own)) index ≡ found
+      → is_listed values (set_value (is_at (tuple_cmp own)) index false) ≡ cond (same_tuple (Some values) (Some own)) false (is_listed values index)
+  by (Some there) is = listed-set own false values index (subst IsSome (sym is) refl)
+  by None is =
+      ap (is_listed values) (set_none (is_at (tuple_cmp own)) false index is) ∙ at (is_at (tuple_cmp own) values) refl
+      ∙ ap (λ x. cond x false (is_listed values index)) (sym (same-place own values))
+    where
+      at : (x : Bool) → is_at (tuple_cmp own) values ≡ x → is_listed values index ≡ cond x false (is_listed values index)
+      at true here = ap (λ k. is_listed k index) (sym (tuple_exact own values (is_equal (tuple_cmp own values) here))) ∙ ap (λ found. unwrap_or found false) is
+      at false other = refl
+
+-- a tuple that was put
+pub listed-put : (own : List Value) (b : Bool) (values : List Value) (index : TupleSlots) → IsStrictlySortedBy tuple_cmp (keys_of index)
+    → is_listed values (insert_entry tuple_cmp index own b) ≡ cond (same_tuple (Some values) (Some own)) b (is_listed values index)
+listed-put own b values index sorted =
+    ap (is_listed values) (insert_as_set tuple_order tuple_exact own b false index sorted)
+    ∙ listed-set own b values (with_place tuple_cmp index own false) (placed_there tuple_order tuple_exact own false index)
+    ∙ ap (cond (same_tuple (Some values) (Some own)) b) (ap (λ found. unwrap_or found false) (lookup_placed tuple_order tuple_exact own false values index)
+    ∙ says (lookup (is_at (tuple_cmp values)) index) (is_at (tuple_cmp values) own))
+  where
+    says : (o : Option Bool) (x : Bool) → unwrap_or (or_else o (cond x (Some false) None)) false ≡ unwrap_or o false
+    says None true = refl
+    says None false = refl
+    says (Some y) x = refl
 
 module _ (t : Table) (key : List (List ℕ)) (unique : UniqueKey) (slots : RowSlots) (index : TupleSlots) (sorted : IsStrictlySortedBy key_cmp (keys_of slots)) (apart : AreApart unique slots) (agree : Agrees unique slots index) where
   listed-scan : (values : List Value) → is_listed values index ≡ scan unique values slots
@@ -269,12 +293,16 @@ module _ (t : Table) (key : List (List ℕ)) (unique : UniqueKey) (slots : RowSl
   others-listed : (values : List Value) → others key unique values slots ≡ (is_listed values index && not (has_tuple unique values (row_at key slots)))
   others-listed values = others-scan key unique slots sorted apart values ∙ ap (λ b. b && not (has_tuple unique values (row_at key slots))) (sym (listed-scan values))
 
+  -- the tuple of the row at a key is listed
+  pub own-listed : (values : List Value) → has_tuple unique values (row_at key slots) ≡ true → is_listed values index ≡ true
+  own-listed values has = listed-scan values ∙ own-scan key unique slots sorted values has
+
   -- an index that agrees with the rows does so after a row was set: its old tuple is no longer listed, and its new one is
-  pub agrees-set : (new from to : Option (List Value)) → IsSome (lookup (is_at (key_cmp key)) slots) → from ≡ counting_tuple unique (row_at key slots) → to ≡ counting_tuple unique new
-      → HasPlace from index → HasPlace to index → Agrees unique (set_value (is_at (key_cmp key)) slots new) (with_listed to true (with_listed from false index))
-  agrees-set new from to there old after place_from place_to values =
-      listed-with to true values (with_listed from false index) (place-kept from false to index place_from place_to)
-      ∙ ap (cond (same_tuple (Some values) to) true) (listed-with from false values index place_from)
+  pub agrees-set : (new from to : Option (List Value)) (moved : TupleSlots) → IsSome (lookup (is_at (key_cmp key)) slots) → from ≡ counting_tuple unique (row_at key slots) → to ≡ counting_tuple unique new
+      → ((values : List Value) → is_listed values moved ≡ cond (same_tuple (Some values) to) true (cond (same_tuple (Some values) from) false (is_listed values index)))
+      → Agrees unique (set_value (is_at (key_cmp key)) slots new) moved
+  agrees-set new from to moved there old after says values =
+      says values
       ∙ (λ i. cond (same_tuple (Some values) (after i)) true (cond (same_tuple (Some values) (old i)) false (is_listed values index)))
       ∙ by (has_tuple unique values new) (has_tuple unique values (row_at key slots)) (is_listed values index)
       ∙ ap (λ b. has_tuple unique values new || b) (sym (others-listed values))
@@ -292,3 +320,9 @@ module _ (t : Table) (key : List (List ℕ)) (unique : UniqueKey) (slots : RowSl
   pub is_taken-listed : (after : Option (List Value)) → are_in_place t slots ≡ true → (values : List Value) → counting_tuple unique after ≡ Some values
       → is_taken t key after (rows_of slots) unique ≡ (is_listed values index && not (same_tuple (Some values) (counting_tuple unique (row_at key slots))))
   is_taken-listed after in_place values counts = is_taken-others t key unique values after slots in_place counts ∙ others-listed values
+
+-- the same, whether a tuple was put or memory wanted
+pub put_listed : {T E : Type 0} (result : Result T E) (own : List Value) (b : Bool) (old new : TupleSlots) → IsStrictlySortedBy tuple_cmp (keys_of old) → OnOk result (new ≡ insert_entry tuple_cmp old own b)
+    → OnOk result ((values : List Value) → is_listed values new ≡ cond (same_tuple (Some values) (Some own)) b (is_listed values old))
+put_listed (Ok t) own b old new sorted is = λ values. ap (is_listed values) is ∙ listed-put own b values old sorted
+put_listed (Err e) own b old new sorted is = tt

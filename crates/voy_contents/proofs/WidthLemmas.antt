@@ -8,9 +8,9 @@ use Rattle.std.specs.Prelude.{◌^◌, IsSome, nat_lt, slice_get}
 use Rattle.voy_event.specs.declared.event.Event.{Event}
 use Rattle.voy_schema.specs.declared.table.Table.{Table}
 use Rattle.voy_schema.specs.declared.value.Value.{Value}
-use Rattle.voy_contents.proofs.MemTableLemmas.{length_map}
-use Rattle.voy_contents.proofs.PreparingLemmas.{table_there}
-use Rattle.voy_contents.specs.Loads.{width_of}
+use Rattle.voy_contents.proofs.ListLemmas.{length_map}
+use Rattle.voy_contents.proofs.TableListLemmas.{table_there}
+use Rattle.voy_contents.specs.WayBack.{width_of}
 use Rattle.voy_contents.specs.Marks.{IsInChannels, NamesTables, are_below}
 use Rattle.voy_tables.specs.Changes.{is_well_formed, table_of}
 use Rattle.voy_tables.specs.RowText.{row_line, row_lines}

@@ -3,24 +3,24 @@ use Rattle.std.specs.Prelude.{◌≡◌, ◌||◌, ℕ, List, Option, Some, None
 use Rattle.voy_schema.specs.declared.table.Table.{Table}
 use Rattle.voy_schema.specs.declared.value.Value.{Value}
 use Rattle.voy_contents.specs.Marks.{HasMarkRoom, NamesTables, says}
-use Rattle.voy_contents.specs.MemTables.{TupleSlots}
-use Rattle.voy_contents.specs.TableSteps.{lists_of}
-use Rattle.voy_contents.specs.WayBack.{LeadsTo}
+use Rattle.voy_contents.specs.Places.{index_places}
+use Rattle.voy_contents.specs.TableLists.{lists_of}
+use Rattle.voy_contents.specs.Tables.{CanGoBack, lists_in, schema_in}
+use Rattle.voy_contents.specs.WayBack.{goes_back}
 use Rattle.voy_contents.specs.declared.contents.MemContents.{MemContents}
 use Rattle.voy_contents.specs.declared.done.Done.{Done}
 use Rattle.voy_contents.specs.declared.mem_table.MemTable.{MemTable}
-use Rattle.voy_txn.specs.Commits.{AreCleanTables}
 use Rattle.voy_txn.specs.Contents.{Contents, is_batch}
 use Rattle.voy_txn.specs.History.{batch_of, batch_rows_after, changes_after, channels_after, is_load, tables_after, vsns_after}
 use Rattle.voy_txn.specs.declared.txn.Txn.{Txn}
 
 -- the tables of the schema that they are of
 unfoldable pub schema_of : MemContents → List Table
-schema_of contents = contents.schema.tables
+schema_of contents = schema_in contents.tables
 
 -- what they say of a history: the rows that stand, and the marks
 unfoldable pub known : MemContents → Contents
-known contents = says (lists_of contents.tables) contents.marks
+known contents = says (lists_in contents.tables) contents.marks
 
 -- what a store knows once the items of a transaction are done in its tables, and nothing else
 abbrev pub with_items : List Table → Contents → Txn → Contents
@@ -46,28 +46,22 @@ with_marks contents txn = record {
   changes = changes_after contents.changes txn;
 }
 
--- the marks of the transaction can be noted without memory
+-- the transaction can be noted without memory
 pub record HasRoomFor (txn : Txn) (contents : MemContents) : Type 0 where
   pub names : NamesTables (length contents.marks.tables) txn
   pub room : HasMarkRoom txn contents.marks.tables
 
--- what was done leads back from these rows to clean ones
-pub record CanUndo (done : Done) (contents : MemContents) : Type 0 where
-  pub first : List (List (List Value))
-  pub clean : AreCleanTables contents.schema.tables first
-  pub leads : LeadsTo contents.schema.tables done.way_back contents.tables first
+-- what was done leads back to clean tables
+abbrev pub CanUndo : Done → MemContents → Type 0
+CanUndo done contents = CanGoBack done.way contents.tables
 
 -- once undone, they say this again
 pub record LeadsBack (done : Done) (now : MemContents) (before : Contents) : Type 0 where
   pub can : CanUndo done now
-  pub leads : LeadsTo now.schema.tables done.way_back now.tables before.tables
+  pub lists : lists_of (goes_back done.way now.tables.tables) ≡ before.tables
   pub marks : says before.tables now.marks ≡ before
 
--- how many places an index has, and how many there are in a table for rows and for the tuples of one of its unique keys
-abbrev pub index_places : Option TupleSlots → ℕ
-index_places None = 0
-index_places (Some index) = length index
-
+-- how many places there are in a table for rows, and for the tuples of one of its unique keys
 abbrev pub row_places : Option MemTable → ℕ
 row_places None = 0
 row_places (Some m) = length m.rows
@@ -78,8 +72,8 @@ tuple_places_in (Some m) key = index_places (slice_get m.indexes key)
 
 -- how many places there are for the keys of a table, 0 where there is no such table
 unfoldable pub key_places_of : MemContents → ℕ → ℕ
-key_places_of contents table = row_places (slice_get contents.tables table)
+key_places_of contents table = row_places (slice_get contents.tables.tables table)
 
 -- and for tuples of its unique key at this place, 0 where there is none
 unfoldable pub tuple_places_of : MemContents → ℕ → ℕ → ℕ
-tuple_places_of contents table key = tuple_places_in (slice_get contents.tables table) key
+tuple_places_of contents table key = tuple_places_in (slice_get contents.tables.tables table) key

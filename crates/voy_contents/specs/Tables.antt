@@ -1,12 +1,12 @@
--- The tables of a schema in memory, and why a change of them was refused.
-use Rattle.std.specs.Prelude.{◌≡◌, List, Option, Some}
+-- The tables of a schema in memory.
+use Rattle.std.specs.Prelude.{◌≡◌, List}
 use Rattle.voy_schema.specs.declared.table.Table.{Table}
 use Rattle.voy_schema.specs.declared.value.Value.{Value}
-use Rattle.voy_contents.specs.TableSteps.{lists_of}
+use Rattle.voy_contents.specs.TableLists.{AreMemTables, lists_of}
+use Rattle.voy_contents.specs.WayBack.{goes_back}
 use Rattle.voy_contents.specs.declared.tables.Tables.{Tables}
-use Rattle.voy_tables.specs.declared.change.Misfit.{Misfit}
-use Rattle.voy_tables.specs.declared.change.PlainError.{PlainError}
-use Rattle.voy_tables.specs.declared.change.PlainError.TheVariants as refused
+use Rattle.voy_contents.specs.declared.way_back.WayBack.{WayBack}
+use Rattle.voy_txn.specs.Commits.{AreCleanTables}
 
 -- the tables of the schema that they are of
 unfoldable pub schema_in : Tables → List Table
@@ -16,7 +16,12 @@ schema_in tables = tables.schema.tables
 unfoldable pub lists_in : Tables → List (List (List Value))
 lists_in tables = lists_of tables.tables
 
--- why a change was refused: for its misfit, or for want of memory, which says nothing of the change
-abbrev pub IsRefused : Option Misfit → PlainError → Type 0
-IsRefused found (refused.Misfit misfit) = found ≡ Some misfit
-IsRefused found refused.NoMemory = Unit {0}
+-- the way leads back to clean tables
+pub record CanGoBack (way : WayBack) (tables : Tables) : Type 0 where
+  pub stand : AreMemTables tables.schema.tables (goes_back way tables.tables)
+  pub clean : AreCleanTables tables.schema.tables (lists_of (goes_back way tables.tables))
+
+-- and these are the rows that they have
+pub record LeadsTo (way : WayBack) (tables : Tables) (before : List (List (List Value))) : Type 0 where
+  pub can : CanGoBack way tables
+  pub lists : lists_of (goes_back way tables.tables) ≡ before

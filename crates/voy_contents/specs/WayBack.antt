@@ -1,18 +1,20 @@
--- What leads back to the rows that stood before a transaction.
-use Rattle.std.specs.Prelude.{◌≡◌, List, length}
-use Rattle.voy_schema.specs.declared.table.Table.{Table}
-use Rattle.voy_schema.specs.declared.value.Value.{Value}
-use Rattle.voy_contents.specs.TableSteps.{AllHavePlaces, AreMemTables, GoesBack, lists_of}
+-- What leads back to the tables that stood before a transaction.
+use Rattle.std.specs.Prelude.{ℕ, List, length}
+use Rattle.voy_contents.specs.Traces.{all_back}
 use Rattle.voy_contents.specs.declared.mem_table.MemTable.{MemTable}
 use Rattle.voy_contents.specs.declared.way_back.WayBack.{WayBack}
-use Rattle.voy_contents.specs.declared.way_back.WayBack.TheVariants.{Steps, Tables}
+use Rattle.voy_contents.specs.declared.way_back.WayBack.TheVariants.{Traces, Tables}
+use Rattle.voy_txn.specs.declared.txn.Txn.{Txn}
+use Rattle.voy_txn.specs.declared.txn.Txn.TheVariants.{Load, Batch, Events, Epoch}
 
--- from these tables it leads back to these rows
-abbrev pub LeadsTo : List Table → WayBack → List MemTable → List (List (List Value)) → Type 0
-LeadsTo schema (Steps steps) tables first = AllHavePlaces steps tables × GoesBack schema steps (length steps) (lists_of tables) first
-LeadsTo schema (Tables before) tables first = AreMemTables schema before × (lists_of before ≡ first)
+-- the tables to which it leads from these
+abbrev pub goes_back : WayBack → List MemTable → List MemTable
+goes_back (Traces traces) tables = all_back traces.items tables
+goes_back (Tables before) tables = before
 
--- its steps have their places in these tables
-abbrev pub HasPlaces : WayBack → List MemTable → Type 0
-HasPlaces (Steps steps) tables = AllHavePlaces steps tables
-HasPlaces (Tables before) tables = Unit {0}
+-- how many tables a load has rows for; 0 for all else
+abbrev pub width_of : Txn → ℕ
+width_of (Load tables) = length tables
+width_of (Batch table batch rows) = 0
+width_of (Events channel items) = 0
+width_of (Epoch vsn channels) = 0

@@ -1,24 +1,19 @@
 ghost use Rattle.std.specs.Prelude.{◌≡◌, true, None, Some, length, slice_get, IfErr, IfOk, OnErr, OnOk};
 ghost use Rattle.std.specs.Option.{option_copied};
-ghost use Rattle.voy_contents.specs.Tables.{IsRefused, lists_in, schema_in};
+ghost use Rattle.voy_contents.specs.Tables.{lists_in, schema_in};
+ghost use Rattle.voy_contents.specs.Refusals.{IsRefused};
 ghost use Rattle.voy_tables.specs.Changes.{is_well_formed, row_change};
 ghost use Rattle.voy_tables.specs.Lists.{empty_lists, lists_after, look, misfit_of, rows_in};
 ghost use Rattle.voy_txn.specs.History.{counted};
 
-use crate::applying::{apply, empty_tables};
-use crate::doing::find_misfit;
-use crate::step::Step;
-use crate::sweeping::sweep;
-use crate::table_step::TableStep;
+use crate::changes::{do_change, empty_tables, find_misfit};
 use crate::tables::Tables;
+use crate::traces::{sweep, undo};
 use std::alloc::{AllocError, Global};
-use std::slice;
 use voy_schema::{Items, Key, Row, Rows, Schema};
 use voy_tables::{
-    Change, Misfit, PlainError, empty_lists_have_no_rows, lists_are_tables,
-    misfit_is_none_where_it_fits,
+    Change, PlainError, empty_lists_have_no_rows, lists_are_tables, misfit_is_none_where_it_fits,
 };
-use voy_txn::StoreError;
 
 impl Tables {
     /// The tables of `schema` with no rows.
@@ -85,24 +80,9 @@ impl Tables {
         ensures ok { OnOk result (misfit_of (schema_in self.now) (row_change (schema_in self.now) change.now) (lists_in self.now) ≡ None) }
         ensures err { IfErr result (IsRefused (misfit_of (schema_in self.now) (row_change (schema_in self.now) change.now) (lists_in self.now))) }
     {
-        match self.misfit(change)? {
+        match find_misfit(self.alloc, &self.schema, &self.tables, change)? {
             Some(misfit) => Err(PlainError::Misfit(misfit)),
             None => Ok(()),
-        }
-    }
-
-    #[tactic(auto, unfolding(crate::specs::Tables::schema_in, crate::specs::Tables::lists_in))]
-    fn misfit(&self, change: &Change) -> Result<Option<Misfit>, AllocError>
-        ensures { IfOk result (λ found. found ≡ misfit_of (schema_in self.now) (row_change (schema_in self.now) change.now) (lists_in self.now)) }
-    {
-        let at = change.table();
-        match self.schema.table(at as usize) {
-            Some(table) => {
-                let step = Step::new(self.alloc, table, change)?;
-                let step = TableStep { table: at, step };
-                Ok(find_misfit(&self.schema, &self.tables, change, &step))
-            }
-            None => Ok(None),
         }
     }
 
@@ -119,18 +99,22 @@ impl Tables {
     {
         lists_are_tables();
         misfit_is_none_where_it_fits();
-        match apply(
+        let mut traces = Vec::new(self.alloc);
+        match do_change(
             self.alloc,
             &self.schema,
             &mut self.tables,
-            slice::from_ref(change),
+            change,
+            &mut traces,
         ) {
-            Ok(steps) => {
-                sweep(&mut self.tables, &steps);
+            Ok(()) => {
+                sweep(&mut self.tables, traces.as_slice());
                 Ok(())
             }
-            Err(StoreError::Violation { item: _, why }) => Err(PlainError::Misfit(why)),
-            Err(_) => Err(PlainError::NoMemory),
+            Err(refused) => {
+                undo(&mut self.tables, &mut traces);
+                Err(refused)
+            }
         }
     }
 }

@@ -1,9 +1,13 @@
 //! What a store knows, in memory: its rows, and the marks of what it took.
 //!
-//! [`MemContents`] is what a store that takes transactions keeps of them. What it says of them is `known` of
-//! `specs/Known.antt`: the rows of each table, by ascending key; for each channel the vsn up to which it is
-//! done; which batches are there, and whether the load is; and for each table what its batches and changes
-//! came to. A store takes a transaction in three steps, so that what it keeps on a disk goes between them:
+//! [`Tables`] are the rows of each table of a schema by key, with an index of the counting tuples of each unique key
+//! (`Agrees` of `specs/MemTables.antt`: it says of a tuple what a scan of the rows would say). A change takes the
+//! logarithm of its table, and [`Tables::apply`] folds one (`ok`, `refused`). What they hold is `lists_in` of
+//! `specs/Tables.antt`, and they are clean at each moment: `tables_are_clean` of `specs/KnownLaws.antt`.
+//!
+//! [`MemContents`] is what a store that takes transactions keeps of them: such tables, and marks. What it says of them
+//! is `known` of `specs/Known.antt`. A store takes a transaction in three steps, so that what it keeps on a disk goes
+//! between them:
 //!
 //! 1. [`MemContents::do_items`] does the items in the tables, all of them or none. Its clause `done` says what
 //!    is known then, and `reason` why a transaction was refused; after an error nothing changed (`kept`).
@@ -11,16 +15,19 @@
 //!    [`MemContents::undo`] gives back exactly what was known (`back`).
 //! 3. [`MemContents::sweep`] takes away places that hold nothing any more.
 //!
-//! Only the first takes memory. It goes over the items once: it makes the places that the change of an item needs,
-//! also to be done back, and then does it. Where one is refused, those before it are done back. The step of a
-//! change that was done has the row that stood there, so the same step done again sets it back. Each unique key
-//! has an index, which says of each tuple what a scan of the rows would say (`Agrees` of `specs/MemTables.antt`).
-//! The tables are clean at each moment: `known_are_clean` of `specs/KnownLaws.antt`.
+//! Only the first takes memory. Each place that a change sets, of a row or of a tuple, leaves a trace (`trace.rt`) of
+//! what it held, so that it can be set back without memory: `all_back` of `specs/Traces.antt`. A change that turns out
+//! not to fit is set back in the same way.
+//!
+//! Where to look: `places.rt` and `indexes.rt` have the maps, `mem_table.rt` one table and `tuples.rt` the tuples of its
+//! rows, `trace.rt` and `traces.rt` the way back, `changes.rt` and `items.rt` one change and the items of a transaction,
+//! `tables.rt` with `folding.rt` and `committing.rt` the tables, `vsns.rt`, `table_marks.rt` and `marks.rt` the marks, and
+//! `contents.rt` with `taking.rt` and `looking.rt` the contents.
 #![tactic(auto)]
 
-mod applying;
+mod changes;
+mod committing;
 mod contents;
-mod doing;
 mod done;
 mod folding;
 mod indexes;
@@ -28,17 +35,13 @@ mod items;
 mod looking;
 mod marks;
 mod mem_table;
-mod preparing;
-mod slots;
-mod step;
-mod sweeping;
+mod places;
 mod table_marks;
-mod table_step;
 mod tables;
 mod taking;
+mod trace;
+mod traces;
 mod tuples;
-mod turning;
-mod undo;
 mod vsns;
 mod way_back;
 

@@ -1,19 +1,18 @@
-ghost use Rattle.std.specs.Prelude.{◌≡◌, length, slice_get, IfOk};
+ghost use Rattle.std.specs.Prelude.{◌≡◌, slice_get, IfOk};
 ghost use Rattle.std.specs.Option.{option_copied};
 ghost use Rattle.voy_contents.specs.Known.{key_places_of, known, schema_of, tuple_places_of};
 ghost use Rattle.voy_tables.specs.Lists.{look, rows_in};
 ghost use Rattle.voy_txn.specs.Contents.{counts_of};
-ghost use Rattle.voy_txn.specs.History.{counted};
 
 use crate::contents::MemContents;
 use std::alloc::AllocError;
-use voy_schema::{Items, Key, Row, Rows};
+use voy_schema::{Key, Row, Rows};
 use voy_txn::Counts;
 
 impl MemContents {
     /// The vsn up to which the channel is done: that of its last item since the last epoch, or else that of the
     /// epoch, 0 where there is neither.
-    #[tactic(auto, unfolding(crate::specs::Known::known, crate::specs::Known::schema_of))]
+    #[tactic(auto, unfolding(crate::specs::Known::known))]
     pub fn last(&self, channel: u32) -> u64
         ensures { result ≡ (known self.now).vsns channel }
     {
@@ -21,7 +20,7 @@ impl MemContents {
     }
 
     /// How many channels the last epoch said. `None` where there is no epoch.
-    #[tactic(auto, unfolding(crate::specs::Known::known, crate::specs::Known::schema_of))]
+    #[tactic(auto, unfolding(crate::specs::Known::known))]
     pub fn channels(&self) -> Option<u32>
         ensures { result ≡ (known self.now).channels }
     {
@@ -29,7 +28,7 @@ impl MemContents {
     }
 
     /// Whether the batch of this number of the table was taken.
-    #[tactic(auto, unfolding(crate::specs::Known::known, crate::specs::Known::schema_of))]
+    #[tactic(auto, unfolding(crate::specs::Known::known))]
     pub fn has_batch(&self, table: u32, number: u32) -> bool
         ensures { result ≡ (known self.now).has_batch table number }
     {
@@ -37,7 +36,7 @@ impl MemContents {
     }
 
     /// Whether the load was taken.
-    #[tactic(auto, unfolding(crate::specs::Known::known, crate::specs::Known::schema_of))]
+    #[tactic(auto, unfolding(crate::specs::Known::known))]
     pub fn loaded(&self) -> bool
         ensures { result ≡ (known self.now).loaded }
     {
@@ -49,30 +48,24 @@ impl MemContents {
     pub fn row(&self, table: u32, key: &Key) -> Option<&Row>
         ensures { option_copied result ≡ look (schema_of self.now) (known self.now).tables (record { table = table; key = key.now }) }
     {
-        match self.tables.get(table as usize) {
-            Some(table) => table.row(key),
-            None => None,
-        }
+        self.tables.row(table, key)
     }
 
     /// A copy of the rows of the table, by ascending key; none where there is no such table.
-    #[tactic(auto, unfolding(crate::specs::Known::known, crate::specs::Known::schema_of))]
+    #[tactic(auto, unfolding(crate::specs::Known::known))]
     pub fn rows(&self, table: u32) -> Result<Rows, AllocError>
         ensures { IfOk result (λ rows. rows ≡ rows_in (slice_get (known self.now).tables table)) }
     {
-        match self.tables.get(table as usize) {
-            Some(table) => table.copied_rows(self.alloc),
-            None => Ok(Items::new(self.alloc)),
-        }
+        self.tables.rows(table)
     }
 
     /// How many rows and changes there are of the table.
-    #[tactic(auto, unfolding(crate::specs::Known::known, crate::specs::Known::schema_of))]
+    #[tactic(auto, unfolding(crate::specs::Known::known))]
     pub fn counts(&self, table: u32) -> Counts
         ensures { result ≡ counts_of (known self.now) table }
     {
         Counts {
-            rows: self.rows_standing(table),
+            rows: self.tables.count(table),
             batch_rows: self.marks.batch_rows(table),
             changes: self.marks.changes(table),
         }
@@ -84,7 +77,7 @@ impl MemContents {
     pub fn key_places(&self, table: u32) -> usize
         ensures { result ≡ key_places_of self.now table }
     {
-        match self.tables.get(table as usize) {
+        match self.tables.tables.get(table as usize) {
             Some(table) => table.rows.count(),
             None => 0,
         }
@@ -96,19 +89,8 @@ impl MemContents {
     pub fn tuple_places(&self, table: u32, key: u32) -> usize
         ensures { result ≡ tuple_places_of self.now table key }
     {
-        match self.tables.get(table as usize) {
+        match self.tables.tables.get(table as usize) {
             Some(table) => table.tuple_places(key),
-            None => 0,
-        }
-    }
-
-    /// How many rows of the table stand.
-    #[tactic(auto, unfolding(crate::specs::Known::known, crate::specs::Known::schema_of))]
-    fn rows_standing(&self, table: u32) -> u64
-        ensures { result ≡ counted (length (rows_in (slice_get (known self.now).tables table))) }
-    {
-        match self.tables.get(table as usize) {
-            Some(table) => table.count(),
             None => 0,
         }
     }

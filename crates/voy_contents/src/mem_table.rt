@@ -1,33 +1,35 @@
-ghost use Rattle.std.specs.Prelude.{◌≡◌, ◌++◌, ◌^◌, ◌<◌, [], None, Some, IfOk, IsSome, OnOk, length, option_map, slice_get};
+ghost use Rattle.std.specs.Prelude.{◌≡◌, ◌++◌, ◌^◌, ◌<◌, [], ℕ, None, Some, true, IfErr, IfOk, OnErr, OnOk, length, slice_get};
 ghost use Rattle.std.specs.BTreeMap.{is_at};
 ghost use Rattle.std.specs.List.{cons_option};
 ghost use Rattle.std.specs.Map.{lookup};
 ghost use Rattle.std.specs.Option.{option_copied};
-ghost use Rattle.voy_tables.specs.Keys.{key_cmp};
-ghost use Rattle.voy_schema.specs.Rows.{key_of};
-ghost use Rattle.voy_contents.specs.Known.{index_places};
-ghost use Rattle.voy_contents.specs.MemTables.{HavePlaces, IsMemTable, KeepsPlaces, KeepsRows, SweepsRows, row_at, rows_of, tuples_of};
-ghost use Rattle.voy_contents.specs.Steps.{HasStepPlaces, IsReady, IsStepOf, IsSwapped};
-ghost use Rattle.voy_tables.specs.Changes.{before_of};
+ghost use Rattle.voy_contents.specs.MemTables.{AllMove, IsFirstTaken, IsMemTable, IsRowSet, Lists, Moves, SweepsRows, TupleSlots, are_listed, is_in_place, is_taken_by, row_at, rows_of, standing};
+ghost use Rattle.voy_contents.specs.Places.{index_places, place_back};
+ghost use Rattle.voy_contents.specs.Refusals.{IsRefused};
+ghost use Rattle.voy_contents.specs.Traces.{GoesBack, table_back};
+ghost use Rattle.voy_schema.specs.Rows.{counting_tuple};
 ghost use Rattle.voy_schema.specs.declared.table.Table.{Table};
-ghost use Rattle.voy_tables.specs.Lists.{is_taken, misfit_by, misfit_in, row_with_key, unique_misfit};
+ghost use Rattle.voy_tables.specs.Keys.{key_cmp};
+ghost use Rattle.voy_tables.specs.Lists.{misfit_by, row_with_key, rows_after, unique_misfit};
 ghost use Rattle.voy_txn.specs.History.{counted};
 
-use crate::indexes::{Index, is_taken_by, make_tuple_places, move_tuples, sweep_tuples};
-use crate::slots::Slots;
-use crate::step::Step;
-use crate::tuples::Tuples;
+use crate::indexes::{Index, is_listed, put_tuple, sweep_tuple};
+use crate::places::Places;
+use crate::trace::{Place, Trace};
+use crate::tuples::{keeps_tuple, tuple_of};
 use std::alloc::{AllocError, Global};
-use std::mem::swap;
-use voy_schema::{Copies, Items, Key, Row, Rows, Table, UniqueKey};
-use voy_tables::{Change, Misfit};
+use voy_schema::{Copies, Items, Key, Row, Rows, Table, Tuple, UniqueKey, Value};
+use voy_tables::{Misfit, PlainError};
 
 /// The rows of one table by key, and for each of its unique keys an index of the tuples that count.
 #[derive(Drop)]
 pub(crate) struct MemTable {
-    pub(crate) rows: Slots<Key, Option<Row>>,
+    pub(crate) rows: Places<Key, Option<Row>>,
     pub(crate) indexes: Items<Index>,
 }
+
+/// For each table of a schema, its rows and indexes.
+pub(crate) type MemTables = Items<MemTable>;
 
 impl MemTable {
     /// A table with no rows.
@@ -37,10 +39,10 @@ impl MemTable {
     {
         let mut indexes = Items::new(alloc);
         for _unique in table.unique_keys.as_slice() {
-            indexes.push(Slots::new(alloc))?;
+            indexes.push(Places::new(alloc))?;
         }
         Ok(MemTable {
-            rows: Slots::new(alloc),
+            rows: Places::new(alloc),
             indexes,
         })
     }
@@ -85,85 +87,6 @@ impl MemTable {
         count
     }
 
-    /// Makes the places that the step needs. The rows stay as they are, whatever it answers.
-    pub(crate) fn make_places(&mut self, step: &Step) -> Result<(), AllocError>
-        requires from { length step.now.from ≡ length self.old.indexes }
-        requires to { length step.now.to ≡ length self.old.indexes }
-        ensures keeps { KeepsRows self.old.rows self.old.indexes self.new.rows self.new.indexes }
-        ensures places { OnOk result (HasStepPlaces step.now self.new.rows self.new.indexes) }
-    {
-        self.make_row_place(&step.key)?;
-        self.make_tuple_places(&step.from)?;
-        self.make_tuple_places(&step.to)
-    }
-
-    fn make_row_place(&mut self, key: &Key) -> Result<(), AllocError>
-        ensures keeps { KeepsRows self.old.rows self.old.indexes self.new.rows self.new.indexes }
-        ensures place { OnOk result (IsSome (lookup (is_at (key_cmp key.now)) self.new.rows)) }
-    {
-        self.rows.make(key, None)
-    }
-
-    fn make_tuple_places(&mut self, tuples: &Tuples) -> Result<(), AllocError>
-        requires { length tuples.now ≡ length self.old.indexes }
-        ensures keeps { KeepsRows self.old.rows self.old.indexes self.new.rows self.new.indexes }
-        ensures places { OnOk result (HavePlaces tuples.now self.new.indexes) }
-    {
-        make_tuple_places(&mut self.indexes, tuples)
-    }
-
-    /// Why `change` does not fit the table; nothing where it fits. `step` is the step of the change.
-    pub(crate) fn misfit(&self, table: &Table, change: &Change, step: &Step) -> Option<Misfit>
-        requires stands { IsMemTable table.now self.now.rows self.now.indexes }
-        requires step { IsStepOf table.now change.now step.now }
-        requires few { length table.now.unique_keys < 2 ^ 32 }
-        ensures { result ≡ misfit_in table.now change.now (rows_of self.now.rows) }
-    {
-        let misfit = self.standing_misfit(change, &step.key);
-        if misfit.is_some() {
-            return misfit;
-        }
-        self.unique_misfit(table, step)
-    }
-
-    /// Why the row of this key does not stand as `change` says.
-    fn standing_misfit(&self, change: &Change, key: &Key) -> Option<Misfit>
-        ensures { (t : Table) → IsMemTable t self.now.rows self.now.indexes → result ≡ misfit_by (before_of change.now) (row_with_key t key.now (rows_of self.now.rows)) None }
-    {
-        misfit_beside(change, self.row(key))
-    }
-
-    /// The least unique key whose tuple of the step's row another row has.
-    fn unique_misfit(&self, table: &Table, step: &Step) -> Option<Misfit>
-        requires stands { IsMemTable table.now self.now.rows self.now.indexes }
-        requires from { step.now.from ≡ tuples_of table.now (row_with_key table.now step.now.key (rows_of self.now.rows)) }
-        requires to { step.now.to ≡ tuples_of table.now step.now.row }
-        requires few { length table.now.unique_keys < 2 ^ 32 }
-        ensures { result ≡ unique_misfit table.now step.now.key step.now.row (rows_of self.now.rows) }
-    {
-        for (at, unique) in table.unique_keys.as_slice().iter().enumerate() {
-            if self.is_tuple_taken(table, at, unique, step) {
-                return Some(Misfit::Unique { key: at as u32 });
-            }
-        }
-        None
-    }
-
-    /// Whether another row has the tuple of the step's row for the unique key at this place.
-    fn is_tuple_taken(&self, table: &Table, at: usize, unique: &UniqueKey, step: &Step) -> bool
-        requires stands { IsMemTable table.now self.now.rows self.now.indexes }
-        requires from { step.now.from ≡ tuples_of table.now (row_with_key table.now step.now.key (rows_of self.now.rows)) }
-        requires to { step.now.to ≡ tuples_of table.now step.now.row }
-        requires unique { slice_get table.now.unique_keys at ≡ Some unique.now }
-        ensures { result ≡ is_taken table.now step.now.key step.now.row (rows_of self.now.rows) unique.now }
-    {
-        is_taken_by(
-            &self.indexes.as_slice()[at],
-            &step.from.as_slice()[at],
-            &step.to.as_slice()[at],
-        )
-    }
-
     /// How many places the unique key at this place of the table has for tuples; 0 where there is no such key.
     pub(crate) fn tuple_places(&self, key: u32) -> usize
         ensures { result ≡ index_places (slice_get self.now.indexes key) }
@@ -174,43 +97,238 @@ impl MemTable {
         }
     }
 
-    /// Sets the step's row, and gives the step the row that stood there, so that the same call sets it
-    /// back. It takes no memory.
-    pub(crate) fn swap(&mut self, step: &mut Step)
-        requires places { HasStepPlaces step.old self.old.rows self.old.indexes }
-        requires from { length step.old.from ≡ length self.old.indexes }
-        requires to { length step.old.to ≡ length self.old.indexes }
-        ensures key { step.new.key ≡ step.old.key }
-        ensures from { step.new.from ≡ step.old.to }
-        ensures to { step.new.to ≡ step.old.from }
-        ensures places { KeepsPlaces self.old.rows self.old.indexes self.new.rows self.new.indexes }
-        ensures done { (t : Table) → IsMemTable t self.old.rows self.old.indexes → IsReady t step.old (rows_of self.old.rows) → IsSwapped t step.old step.new self.old.rows self.new.rows self.new.indexes }
+    /// Why a change of the row at this key does not fit the table `of`; nothing where it fits.
+    pub(crate) fn misfit(
+        &self,
+        alloc: Global,
+        of: &Table,
+        key: &Key,
+        before: Option<&Row>,
+        after: Option<&Row>,
+    ) -> Result<Option<Misfit>, AllocError>
+        requires stands { IsMemTable of.now self.now.rows self.now.indexes }
+        requires few { length of.now.unique_keys < 2 ^ 32 }
+        ensures { IfOk result (λ found. found ≡ misfit_by (option_copied before.entry) (row_with_key of.now key.now (rows_of self.now.rows)) (unique_misfit of.now key.now (option_copied after.entry) (rows_of self.now.rows))) }
     {
-        move_tuples(&mut self.indexes, &step.from, &step.to);
-        let row = step.row.take();
-        step.row = self.rows.set(&step.key, row);
-        swap(&mut step.from, &mut step.to);
-    }
-
-    /// Takes away the places that the step, done or done back, left with nothing: its key's where it took a row
-    /// away, which it has now, and those of the tuples of that row. The rows stay as they are. It takes no memory.
-    pub(crate) fn sweep(&mut self, step: &Step)
-        ensures { SweepsRows self.old.rows self.old.indexes self.new.rows self.new.indexes }
-    {
-        if step.row.is_some() {
-            self.sweep_row(&step.key);
+        let misfit = misfit_beside(before, self.standing(key));
+        if misfit.is_some() {
+            return Ok(misfit);
         }
-        self.sweep_tuples(&step.to);
+        self.taken_tuple(alloc, of.unique_keys.as_slice(), before, after)
     }
 
-    /// Takes away the places that the step names and that hold nothing. The rows stay as they are. It takes
-    /// no memory.
-    pub(crate) fn sweep_named(&mut self, step: &Step)
+    /// The first unique key whose tuple of the row after a change another row has.
+    fn taken_tuple(
+        &self,
+        alloc: Global,
+        unique_keys: &[UniqueKey],
+        before: Option<&Row>,
+        after: Option<&Row>,
+    ) -> Result<Option<Misfit>, AllocError>
+        requires as_many { length self.now.indexes ≡ length unique_keys.now }
+        requires few { length unique_keys.now < 2 ^ 32 }
+        ensures { IfOk result (IsFirstTaken unique_keys.now (option_copied before.entry) (option_copied after.entry) self.now.indexes) }
+    {
+        for at in 0..unique_keys.len() {
+            if is_taken(
+                alloc,
+                &self.indexes.as_slice()[at],
+                &unique_keys[at],
+                before,
+                after,
+            )? {
+                return Ok(Some(Misfit::Unique { key: at as u32 }));
+            }
+        }
+        Ok(None)
+    }
+
+    /// Does a change of the row at this key, and puts its traces behind the others; or it answers why it does not
+    /// fit the table `of`. Whatever it answers, the traces lead back to what stood before.
+    pub(crate) fn change(
+        &mut self,
+        alloc: Global,
+        table: u32,
+        of: &Table,
+        key: Key,
+        before: Option<&Row>,
+        after: Option<&Row>,
+        traces: &mut Vec<Trace>,
+    ) -> Result<(), PlainError>
+        requires stands { IsMemTable of.now self.old.rows self.old.indexes }
+        requires in_place { is_in_place of.now key (option_copied after) ≡ true }
+        requires few { length of.now.unique_keys < 2 ^ 32 }
+        ensures back { GoesBack table self.old self.new traces.old.items traces.new.items }
+        ensures fits { OnOk result (misfit_by (option_copied before.entry) (row_with_key of.now key (rows_of self.old.rows)) (unique_misfit of.now key (option_copied after.entry) (rows_of self.old.rows)) ≡ None) }
+        ensures refused { IfErr result (IsRefused (misfit_by (option_copied before.entry) (row_with_key of.now key (rows_of self.old.rows)) (unique_misfit of.now key (option_copied after.entry) (rows_of self.old.rows)))) }
+        ensures stands { OnOk result (IsMemTable of.now self.new.rows self.new.indexes) }
+        ensures rows { OnOk result (rows_of self.new.rows ≡ rows_after of.now key (option_copied after.entry) (rows_of self.old.rows)) }
+    {
+        if let Some(misfit) = self.set_row(table, key, before, after, traces)? {
+            return Err(PlainError::Misfit(misfit));
+        }
+        let unique_keys = of.unique_keys.as_slice();
+        match self.move_tuples(alloc, table, unique_keys, before, after, traces)? {
+            Some(misfit) => Err(PlainError::Misfit(misfit)),
+            None => Ok(()),
+        }
+    }
+
+    /// Sets the row after a change at its key. It answers why the row that stood there is not the one before.
+    fn set_row(
+        &mut self,
+        table: u32,
+        key: Key,
+        before: Option<&Row>,
+        after: Option<&Row>,
+        traces: &mut Vec<Trace>,
+    ) -> Result<Option<Misfit>, AllocError>
+        ensures back { GoesBack table self.old self.new traces.old.items traces.new.items }
+        ensures indexes { self.new.indexes ≡ self.old.indexes }
+        ensures misfit { IfOk result (λ found. found ≡ misfit_by (option_copied before.entry) (row_at key self.old.rows) None) }
+        ensures set { IfOk result (λ found. found ≡ None → IsRowSet key (option_copied after.entry) self.old.rows self.new.rows) }
+    {
+        let row = copied(after)?;
+        let emptied = row.is_none();
+        traces.reserve(1)?;
+        let held = put_row(&mut self.rows, &key, before, row)?;
+        let misfit = misfit_beside(before, standing(&held));
+        let place = Place::Row { key, held, emptied };
+        traces.push_reserved(Trace { table, place });
+        Ok(misfit)
+    }
+
+    /// In each index, lists the tuple of the row before a change no longer, and that of the row after it. It answers
+    /// the first unique key whose tuple another row has, and stops there.
+    fn move_tuples(
+        &mut self,
+        alloc: Global,
+        table: u32,
+        unique_keys: &[UniqueKey],
+        before: Option<&Row>,
+        after: Option<&Row>,
+        traces: &mut Vec<Trace>,
+    ) -> Result<Option<Misfit>, AllocError>
+        requires as_many { length self.old.indexes ≡ length unique_keys.now }
+        requires few { length unique_keys.now < 2 ^ 32 }
+        ensures back { GoesBack table self.old self.new traces.old.items traces.new.items }
+        ensures rows { self.new.rows ≡ self.old.rows }
+        ensures misfit { IfOk result (IsFirstTaken unique_keys.now (option_copied before.entry) (option_copied after.entry) self.old.indexes) }
+        ensures moved { IfOk result (λ found. found ≡ None → AllMove unique_keys.now (option_copied before.entry) (option_copied after.entry) (length unique_keys.now) self.old.indexes self.new.indexes) }
+    {
+        for at in 0..unique_keys.len() {
+            let place = at as u32;
+            if self.move_tuple(alloc, table, place, &unique_keys[at], before, after, traces)? {
+                return Ok(Some(Misfit::Unique { key: place }));
+            }
+        }
+        Ok(None)
+    }
+
+    /// The same in the index of one unique key. Whether another row has the tuple.
+    fn move_tuple(
+        &mut self,
+        alloc: Global,
+        table: u32,
+        at: u32,
+        unique: &UniqueKey,
+        before: Option<&Row>,
+        after: Option<&Row>,
+        traces: &mut Vec<Trace>,
+    ) -> Result<bool, AllocError>
+        requires { at < length self.old.indexes }
+        ensures back { GoesBack table self.old self.new traces.old.items traces.new.items }
+        ensures rows { self.new.rows ≡ self.old.rows }
+        ensures as_many { length self.new.indexes ≡ length self.old.indexes }
+        ensures taken { IfOk result (λ taken. (index : TupleSlots) → slice_get self.old.indexes at ≡ Some index → is_taken_by (counting_tuple unique.now (option_copied before.entry)) (counting_tuple unique.now (option_copied after.entry)) index ≡ taken) }
+        ensures moves { OnOk result (Moves at (counting_tuple unique.now (option_copied before.entry)) (counting_tuple unique.now (option_copied after.entry)) self.old.indexes self.new.indexes) }
+    {
+        if keeps_tuple(unique, before, after) {
+            return Ok(false);
+        }
+        let to = tuple_of(alloc, unique, after)?;
+        let taken = self.list(table, at, to, true, traces)?;
+        let from = tuple_of(alloc, unique, before)?;
+        let _listed = self.list(table, at, from, false, traces)?;
+        Ok(taken)
+    }
+
+    /// Lists the tuple, if there is one, in the index of this unique key, or lists it no longer. Whether it was listed.
+    fn list(
+        &mut self,
+        table: u32,
+        unique: u32,
+        tuple: Option<Tuple<Value>>,
+        listed: bool,
+        traces: &mut Vec<Trace>,
+    ) -> Result<bool, AllocError>
+        requires { unique < length self.old.indexes }
+        ensures back { GoesBack table self.old self.new traces.old.items traces.new.items }
+        ensures rows { self.new.rows ≡ self.old.rows }
+        ensures as_many { length self.new.indexes ≡ length self.old.indexes }
+        ensures was { IfOk result (λ was. (index : TupleSlots) → slice_get self.old.indexes unique ≡ Some index → are_listed tuple index ≡ was) }
+        ensures lists { OnOk result (Lists unique tuple listed self.old.indexes self.new.indexes) }
+    {
+        match tuple {
+            None => Ok(false),
+            Some(tuple) => {
+                traces.reserve(1)?;
+                let held = put_tuple(self.indexes.item_mut(unique as usize), &tuple, listed)?;
+                let was = held.unwrap_or(false);
+                let place = Place::Tuple {
+                    unique,
+                    tuple,
+                    held,
+                    emptied: !listed,
+                };
+                traces.push_reserved(Trace { table, place });
+                Ok(was)
+            }
+        }
+    }
+
+    /// Sets a place back to what it held. It takes no memory.
+    pub(crate) fn set_back(&mut self, place: Place)
+        ensures { self.new ≡ table_back place self.old }
+    {
+        match place {
+            Place::Row { key, held, .. } => self.rows.set_back(&key, held),
+            Place::Tuple {
+                unique,
+                tuple,
+                held,
+                ..
+            } => {
+                let at = unique as usize;
+                if at < self.indexes.len() {
+                    self.indexes.item_mut(at).set_back(&tuple, held);
+                }
+            }
+        }
+    }
+
+    /// Takes the place away where it was emptied and holds nothing still. The rows stay as they are. It takes no
+    /// memory.
+    pub(crate) fn sweep(&mut self, place: &Place)
         ensures { SweepsRows self.old.rows self.old.indexes self.new.rows self.new.indexes }
     {
-        self.sweep_row(&step.key);
-        self.sweep_tuples(&step.from);
-        self.sweep_tuples(&step.to);
+        match place {
+            Place::Row { key, emptied, .. } => {
+                if *emptied {
+                    self.sweep_row(key);
+                }
+            }
+            Place::Tuple {
+                unique,
+                tuple,
+                emptied,
+                ..
+            } => {
+                if *emptied {
+                    self.sweep_tuple(*unique, tuple);
+                }
+            }
+        }
     }
 
     fn sweep_row(&mut self, key: &Key)
@@ -221,10 +339,51 @@ impl MemTable {
         }
     }
 
-    fn sweep_tuples(&mut self, tuples: &Tuples)
+    fn sweep_tuple(&mut self, unique: u32, tuple: &Tuple<Value>)
         ensures { SweepsRows self.old.rows self.old.indexes self.new.rows self.new.indexes }
     {
-        sweep_tuples(&mut self.indexes, tuples);
+        let at = unique as usize;
+        if at < self.indexes.len() {
+            sweep_tuple(self.indexes.item_mut(at), tuple);
+        }
+    }
+}
+
+/// Sets what stands at the key, at a place of its own where a change has no row before, and gives what the place
+/// held. After an error nothing changed.
+fn put_row(
+    rows: &mut Places<Key, Option<Row>>,
+    key: &Key,
+    before: Option<&Row>,
+    row: Option<Row>,
+) -> Result<Option<Option<Row>>, AllocError>
+    ensures held { IfOk result (λ held. held ≡ lookup (is_at (key_cmp key.now)) rows.old) }
+    ensures back { IfOk result (λ held. place_back key_cmp rows.new key.now held ≡ rows.old) }
+    ensures set { IfOk result (λ held. standing held ≡ option_copied before.entry → IsRowSet key.now row rows.old rows.new) }
+    ensures err { OnErr result (rows.new ≡ rows.old) }
+{
+    match before {
+        None => rows.put(key, row),
+        Some(_row) => Ok(rows.set(key, row)),
+    }
+}
+
+/// The row that a place held.
+fn standing(held: &Option<Option<Row>>) -> Option<&Row>
+    ensures { option_copied result ≡ standing held.now }
+{
+    match held {
+        Some(Some(row)) => Some(row),
+        _ => None,
+    }
+}
+
+fn copied(row: Option<&Row>) -> Result<Option<Row>, AllocError>
+    ensures { IfOk result (λ made. made ≡ option_copied row.entry) }
+{
+    match row {
+        Some(row) => Ok(Some(row.copy()?)),
+        None => Ok(None),
     }
 }
 
@@ -238,17 +397,35 @@ fn push_row(rows: &mut Rows, row: &Option<Row>) -> Result<(), AllocError>
     }
 }
 
-/// Why the row that stands at the key of `change` is not the one that the change says.
-fn misfit_beside(change: &Change, standing: Option<&Row>) -> Option<Misfit>
-    ensures { result ≡ misfit_by (before_of change.now) (option_copied standing.entry) None }
+/// Whether a row other than the one that is changed has the tuple of the row after the change.
+fn is_taken(
+    alloc: Global,
+    index: &Index,
+    unique: &UniqueKey,
+    before: Option<&Row>,
+    after: Option<&Row>,
+) -> Result<bool, AllocError>
+    ensures { IfOk result (λ taken. is_taken_by (counting_tuple unique.now (option_copied before.entry)) (counting_tuple unique.now (option_copied after.entry)) index.now ≡ taken) }
 {
-    match change {
-        Change::Insert { .. } => match standing {
+    if keeps_tuple(unique, before, after) {
+        return Ok(false);
+    }
+    match tuple_of(alloc, unique, after)? {
+        Some(tuple) => Ok(is_listed(index, &tuple)),
+        None => Ok(false),
+    }
+}
+
+/// Why the row that stands is not the one before a change.
+fn misfit_beside(before: Option<&Row>, standing: Option<&Row>) -> Option<Misfit>
+    ensures { result ≡ misfit_by (option_copied before.entry) (option_copied standing.entry) None }
+{
+    match before {
+        None => match standing {
             Some(_row) => Some(Misfit::KeyTaken),
             None => None,
         },
-        Change::Update { before, .. } => misfit_instead(before, standing),
-        Change::Delete { before, .. } => misfit_instead(before, standing),
+        Some(before) => misfit_instead(before, standing),
     }
 }
 

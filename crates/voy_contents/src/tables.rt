@@ -1,8 +1,8 @@
 ghost use Rattle.std.proofs.Props.{props};
-ghost use Rattle.voy_contents.specs.TableSteps.{AreMemTables, lists_of};
+ghost use Rattle.voy_contents.specs.TableLists.{AreMemTables, lists_of};
 ghost use Rattle.voy_txn.specs.Commits.{AreCleanTables};
 
-use crate::table_step::MemTables;
+use crate::mem_table::MemTables;
 use std::alloc::Global;
 use voy_schema::Schema;
 
@@ -10,7 +10,7 @@ use voy_schema::Schema;
 /// logarithm of its table.
 ///
 /// What they hold is `lists_in` of `specs/Tables.antt`: for each table its rows, by ascending key. They are clean
-/// at each moment: `tables_are_clean` of `specs/TableLaws.antt`.
+/// at each moment: `tables_are_clean` of `specs/KnownLaws.antt`.
 #[derive(Drop)]
 pub struct Tables {
     pub(crate) alloc: Global,

@@ -1,32 +1,14 @@
 ghost use Rattle.std.specs.Prelude.{◌≡◌, IfOk};
 ghost use Rattle.std.specs.Option.{option_copied};
+ghost use Rattle.voy_contents.specs.MemTables.{keeps_tuple};
 ghost use Rattle.voy_schema.specs.Rows.{counting_tuple, value_at, values_at};
-ghost use Rattle.voy_contents.specs.MemTables.{tuples_of};
 
 use std::alloc::{AllocError, Global};
-use voy_schema::{Copies, Items, Row, Table, Tuple, UniqueKey, Value};
-use voy_tables::has_counting_tuple;
+use voy_schema::{Copies, Items, Row, Tuple, UniqueKey, Value};
+use voy_tables::{has_counting_tuple, have_same_tuple};
 
-/// For each unique key of a table, the tuple of a row that counts.
-pub(crate) type Tuples = Items<Option<Tuple<Value>>>;
-
-/// The tuples of `row` that count, for each unique key of `table`; none where there is no row.
-pub(crate) fn tuples_of(
-    alloc: Global,
-    table: &Table,
-    row: Option<&Row>,
-) -> Result<Tuples, AllocError>
-    ensures { IfOk result (λ tuples. tuples ≡ tuples_of table.now (option_copied row.entry)) }
-{
-    let mut tuples = Items::with_capacity(alloc, table.unique_keys.len())?;
-    for unique in table.unique_keys.as_slice() {
-        let tuple = tuple_of(alloc, unique, row)?;
-        tuples.push(tuple)?;
-    }
-    Ok(tuples)
-}
-
-fn tuple_of(
+/// The tuple of `row` that counts for this unique key; none where there is no row.
+pub(crate) fn tuple_of(
     alloc: Global,
     unique: &UniqueKey,
     row: Option<&Row>,
@@ -63,5 +45,18 @@ fn value_at(row: &Row, place: u32) -> Result<Value, AllocError>
     match row.get(place as usize) {
         Some(value) => value.copy(),
         None => Ok(Value::Null),
+    }
+}
+
+/// Whether there are both rows, and both have the same tuple of this unique key or none that counts.
+pub(crate) fn keeps_tuple(unique: &UniqueKey, before: Option<&Row>, after: Option<&Row>) -> bool
+    ensures { result ≡ keeps_tuple unique.now (option_copied before.entry) (option_copied after.entry) }
+{
+    match before {
+        None => false,
+        Some(before) => match after {
+            None => false,
+            Some(after) => have_same_tuple(unique, before, after),
+        },
     }
 }

@@ -36,7 +36,7 @@ impl Vsns {
         }
     }
 
-    /// Whether none of so many channels is done further than to `vsn`.
+    /// Whether none of the first `channels` is done further than to `vsn`.
     #[tactic(auto, unfolding(voy_txn::specs::Commits::is_none_above))]
     pub(crate) fn is_none_above(&self, channels: u32, vsn: u64) -> bool
         ensures { result ≡ is_none_above channels (vsns_in self.now) vsn }

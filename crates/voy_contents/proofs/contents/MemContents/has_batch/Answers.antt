@@ -1,7 +1,7 @@
 use Rattle.voy_contents.specs.Known.{known}
-use Rattle.voy_contents.specs.TableSteps.{lists_of}
+use Rattle.voy_contents.specs.Tables.{lists_in}
 use Rattle.voy_contents.proofs.contents.MemContents.has_batch.Goals as goal
 
 pub returns : goal.returns
 unfolding known
-returns c = c.has_batch.ensures (lists_of c.args.self.now.tables)
+returns c = c.has_batch.ensures (lists_in c.args.self.now.tables)

@@ -1,18 +1,18 @@
-use Rattle.std.proofs.Common.{◌≡◌, Option, Some, None, false, is_some, refl, ap, sym, ◌∙◌}
-use Rattle.voy_tables.specs.MisfitLaws.{stands_as_said}
-use Rattle.voy_contents.specs.MemTables.{rows_of, tuples_of}
-use Rattle.voy_tables.specs.Changes.{before_of}
-use Rattle.voy_tables.specs.Lists.{row_with_key}
-use Rattle.voy_tables.specs.declared.change.Misfit.{Misfit}
+use Rattle.std.proofs.Common.{IfOk, ap, subst, sym, None, ◌∙◌}
+use Rattle.std.specs.Option.{option_copied}
+use Rattle.voy_contents.proofs.ChangeLemmas.{some_misfits, tuples_found}
+use Rattle.voy_contents.specs.MemTables.{IsFirstTaken}
+use Rattle.voy_tables.specs.Lists.{misfit_by}
 use Rattle.voy_contents.proofs.mem_table.MemTable.misfit.Goals as goal
 
-is_none : (o : Option Misfit) → is_some o ≡ false → o ≡ None
-is_none None h = refl
-is_none (Some m) h = cc
+pub returns-then-is_some : goal.returns-then-is_some
+returns-then-is_some c =
+    some_misfits c.args.of.now c.args.key.now (option_copied c.args.before) (option_copied c.args.after) c.args.self.now.rows c.args.self.now.indexes c.requires.stands c.misfit_beside-misfit.result
+    (sym c.is_some.ensures ∙ c.if-is_some.true) (c.misfit_beside-misfit.ensures ∙ ap (λ there. misfit_by (option_copied c.args.before) there None) c.standing.ensures)
 
-pub unique_misfit-requires-clause-from : goal.unique_misfit-requires-clause-from
-unique_misfit-requires-clause-from c =
-    let t = c.args.table.now in
-    let there = row_with_key t c.args.step.now.key (rows_of c.args.self.now.rows) in
-    let none = sym (c.standing_misfit-misfit.ensures t c.requires.stands) ∙ is_none c.standing_misfit-misfit.result (sym c.is_some.ensures ∙ c.if-is_some.false) in
-    c.requires.step.from ∙ ap (tuples_of t) (sym (stands_as_said (before_of c.args.change.now) there none))
+pub returns : goal.returns
+returns c =
+    tuples_found c.args.of.now c.args.key.now (option_copied c.args.before) (option_copied c.args.after) c.args.self.now.rows c.args.self.now.indexes c.requires.stands c.misfit_beside-misfit.result
+    (sym c.is_some.ensures ∙ c.if-is_some.false) (c.misfit_beside-misfit.ensures ∙ ap (λ there. misfit_by (option_copied c.args.before) there None) c.standing.ensures)
+    c.taken_tuple.result
+    (subst (λ keys. IfOk c.taken_tuple.result (IsFirstTaken keys (option_copied c.args.before) (option_copied c.args.after) c.args.self.now.indexes)) c.as_slice.ensures c.taken_tuple.ensures)

@@ -1,5 +1,0 @@
-use Rattle.voy_contents.proofs.ApplyingLemmas.{AreMadeTo}
-use Rattle.voy_contents.proofs.applying.empty_tables.Given as goal
-
-abbrev pub invariant-loop-table : goal.invariant-loop-table
-invariant-loop-table l = AreMadeTo l.table-items l.table-index l.tables
