@@ -4,7 +4,8 @@ use Rattle.std.proofs.lemmas.Bool.{and_from}
 use Rattle.voy_schema.specs.declared.table.Table.{Table}
 use Rattle.voy_schema.specs.declared.value.Value.{Value}
 use Rattle.voy_contents.specs.Known.{HasRoomFor}
-use Rattle.voy_contents.specs.Marks.{HasMarkRoom, NamesTables}
+use Rattle.voy_contents.specs.Marks.{HasMarkRoom}
+use Rattle.voy_txn.specs.TableNames.{NamesTables}
 use Rattle.voy_contents.specs.TableLists.{lists_of}
 use Rattle.voy_contents.specs.declared.contents.MemContents.{MemContents}
 use Rattle.voy_contents.specs.declared.mem_table.MemTable.{MemTable}

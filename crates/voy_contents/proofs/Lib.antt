@@ -12,5 +12,4 @@ mod SweepLemmas
 mod LookingLemmas
 mod VsnLemmas
 mod MarkLemmas
-mod WidthLemmas
 mod ContentsLemmas

@@ -12,7 +12,8 @@ use Rattle.voy_schema.specs.declared.table.Table.{Table}
 use Rattle.voy_schema.specs.declared.value.Value.{Value}
 use Rattle.voy_contents.proofs.ListLemmas.{drop_at, get_push, get_set, length_push, length_set}
 use Rattle.voy_contents.specs.Known.{with_marks}
-use Rattle.voy_contents.specs.Marks.{AddsChanges, are_below, batches_in, batch_rows_in, changes_in, says}
+use Rattle.voy_contents.specs.Marks.{AddsChanges, batches_in, batch_rows_in, changes_in, says}
+use Rattle.voy_txn.specs.TableNames.{are_below}
 use Rattle.voy_contents.specs.Vsns.{vsns_in}
 use Rattle.voy_contents.specs.Numbers.{has_number}
 use Rattle.voy_contents.specs.declared.marks.Marks.{Marks}

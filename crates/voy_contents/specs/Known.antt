@@ -2,7 +2,8 @@
 use Rattle.std.specs.Prelude.{◌≡◌, ◌||◌, ℕ, List, Option, Some, None, length, slice_get}
 use Rattle.voy_schema.specs.declared.table.Table.{Table}
 use Rattle.voy_schema.specs.declared.value.Value.{Value}
-use Rattle.voy_contents.specs.Marks.{HasMarkRoom, NamesTables, says}
+use Rattle.voy_contents.specs.Marks.{HasMarkRoom, says}
+use Rattle.voy_txn.specs.TableNames.{NamesTables}
 use Rattle.voy_contents.specs.Places.{index_places}
 use Rattle.voy_contents.specs.TableLists.{lists_of}
 use Rattle.voy_contents.specs.Tables.{CanGoBack, lists_in, schema_in}

@@ -1,6 +1,5 @@
 -- What is known beside the rows: the vsn of each channel, whether the load is there, and the batches and changes of each table.
-use Rattle.std.specs.Prelude.{◌≡◌, ◌+◌, ◌<◌, ◌==◌, ℕ, Bool, true, List, [], Option, Some, None, count_by, length, nat_lt, slice_get}
-use Rattle.std.specs.List.{list_all}
+use Rattle.std.specs.Prelude.{◌≡◌, ◌+◌, ◌<◌, ◌==◌, ℕ, List, [], Option, Some, None, count_by, length, slice_get}
 use Rattle.std.specs.Vec.{vec_capacity, vec_len}
 use Rattle.voy_schema.specs.declared.value.Value.{Value}
 use Rattle.voy_contents.specs.Numbers.{has_number}
@@ -11,7 +10,6 @@ use Rattle.voy_tables.specs.Changes.{table_of}
 use Rattle.voy_tables.specs.declared.change.Change.{Change}
 use Rattle.voy_txn.specs.Contents.{Contents}
 use Rattle.voy_txn.specs.History.{counted}
-use Rattle.voy_txn.specs.Items.{items_of}
 use Rattle.voy_txn.specs.LawfulTxn.{max_channels}
 use Rattle.voy_txn.specs.declared.txn.Txn.{Txn}
 use Rattle.voy_txn.specs.declared.txn.Txn.TheVariants.{Load, Batch, Events, Epoch}
@@ -42,24 +40,6 @@ says lists marks = record {
   batch_rows = λ table. batch_rows_in (slice_get marks.tables table);
   changes = λ table. changes_in (slice_get marks.tables table);
 }
-
--- each of these changes is of one of so many tables
-abbrev pub are_below : ℕ → List Change → Bool
-are_below count changes = list_all (λ c. nat_lt (table_of c) count) changes
-
--- the marks that a transaction raises are of one of so many tables
-abbrev pub NamesTables : ℕ → Txn → Type 0
-NamesTables count (Load tables) = Unit {0}
-NamesTables count (Batch table batch rows) = nat_lt table count ≡ true
-NamesTables count (Events channel items) = are_below count (items_of (Events channel items)) ≡ true
-NamesTables count (Epoch vsn channels) = Unit {0}
-
--- its channel is one of those that there are
-abbrev pub IsInChannels : Txn → Type 0
-IsInChannels (Load tables) = Unit {0}
-IsInChannels (Batch table batch rows) = Unit {0}
-IsInChannels (Events channel items) = channel < max_channels
-IsInChannels (Epoch vsn channels) = Unit {0}
 
 -- there is room for one batch more
 abbrev pub HasRoom : Option TableMarks → Type 0

@@ -2,7 +2,8 @@ ghost use Rattle.std.specs.Prelude.{◌≡◌, ◌<◌, ℕ, [], List, true, len
 ghost use Rattle.std.specs.List.{cons_option, filter_map};
 ghost use Rattle.voy_schema.specs.declared.value.Value.{Value};
 ghost use Rattle.voy_contents.specs.Known.{with_marks};
-ghost use Rattle.voy_contents.specs.Marks.{AddsChanges, HasMarkRoom, IsInChannels, NamesTables, are_below, batch_rows_in, changes_in, says};
+ghost use Rattle.voy_contents.specs.Marks.{AddsChanges, HasMarkRoom, batch_rows_in, changes_in, says};
+ghost use Rattle.voy_txn.specs.TableNames.{IsInChannels, NamesTables, are_below};
 ghost use Rattle.voy_contents.specs.Vsns.{vsns_in};
 ghost use Rattle.voy_event.specs.declared.event.Event.{Event};
 ghost use Rattle.voy_tables.specs.Lists.{empty_lists};

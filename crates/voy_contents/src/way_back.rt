@@ -1,6 +1,7 @@
 ghost use Rattle.std.specs.Prelude.{◌≡◌, ◌≢◌, ◌<◌, ◌^◌, None, length, IfErr, IfOk, OnErr, OnOk};
 ghost use Rattle.voy_contents.specs.TableLists.{AreMemTables, SweepsLists, lists_of};
-ghost use Rattle.voy_contents.specs.WayBack.{goes_back, width_of};
+ghost use Rattle.voy_contents.specs.WayBack.{goes_back};
+ghost use Rattle.voy_txn.specs.TableNames.{width_of};
 ghost use Rattle.voy_txn.specs.Commits.{HasReason};
 ghost use Rattle.voy_txn.specs.History.{tables_after};
 ghost use Rattle.voy_txn.specs.Items.{items_of, violation_of};

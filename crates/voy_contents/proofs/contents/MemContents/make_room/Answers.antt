@@ -1,9 +1,8 @@
 use Rattle.std.proofs.Common.{subst, sym, ◌∙◌}
 use Rattle.voy_contents.proofs.ContentsLemmas.{room_for}
-use Rattle.voy_contents.proofs.WidthLemmas.{is_in_channels, names_tables}
 use Rattle.voy_contents.specs.Known.{known, schema_of}
-use Rattle.voy_contents.specs.Marks.{NamesTables}
 use Rattle.voy_contents.specs.Tables.{lists_in, schema_in}
+use Rattle.voy_txn.specs.TableNames.{NamesTables, is_in_channels, names_tables}
 use Rattle.voy_contents.proofs.contents.MemContents.make_room.Goals as goal
 
 pub make_room-requires-clause-names : goal.make_room-requires-clause-names

@@ -1,16 +1,17 @@
+use Rattle.std.proofs.Common.{arith}
 use Rattle.voy_contents.proofs.ContentsLemmas.{kept_lists, stay_clean}
-use Rattle.voy_contents.proofs.WidthLemmas.{are_few, is_narrow}
+use Rattle.voy_txn.specs.SizeLaws.{items_are_few, load_is_narrow}
 use Rattle.voy_contents.specs.TableLists.{lists_of}
 use Rattle.voy_contents.specs.Tables.{schema_in}
 use Rattle.voy_contents.proofs.tables.Tables.do_items.Goals as goal
 
 pub go-requires-clause-narrow : goal.go-requires-clause-narrow
 unfolding schema_in
-go-requires-clause-narrow c = is_narrow c.args.self.now.schema.tables c.args.txn.now c.requires.short
+go-requires-clause-narrow c = omega (arith, load_is_narrow c.args.self.now.schema.tables c.args.txn.now, c.requires.short)
 
 pub go-requires-clause-few : goal.go-requires-clause-few
 unfolding schema_in
-go-requires-clause-few c = are_few c.args.self.now.schema.tables c.args.txn.now c.requires.lawful c.requires.short
+go-requires-clause-few c = omega (arith, items_are_few c.args.self.now.schema.tables c.args.txn.now, c.requires.short)
 
 pub invariant_of-self-clause-clean : goal.invariant_of-self-clause-clean
 unfolding schema_in
