@@ -1,4 +1,5 @@
--- What is known beside the rows: the vsn of each channel, whether the load is there, and the batches and changes of each table.
+-- What is known beside the rows: the vsn of each channel and how many the last epoch said, whether the load is there, and the
+-- batches and changes of each table.
 use Rattle.std.specs.Prelude.{◌≡◌, ◌+◌, ◌<◌, ◌==◌, ℕ, List, [], Option, Some, None, count_by, length, slice_get}
 use Rattle.std.specs.Vec.{vec_capacity, vec_len}
 use Rattle.voy_schema.specs.declared.value.Value.{Value}
@@ -46,7 +47,7 @@ abbrev pub HasRoom : Option TableMarks → Type 0
 HasRoom None = Unit {0}
 HasRoom (Some marks) = vec_len marks.batches < vec_capacity marks.batches
 
--- the transaction can be noted without memory
+-- the transaction can be noted without memory: its batch has room, and its channel is one of those that have a vsn
 abbrev pub HasMarkRoom : Txn → List TableMarks → Type 0
 HasMarkRoom (Load tables) marks = Unit {0}
 HasMarkRoom (Batch table batch rows) marks = HasRoom (slice_get marks table)

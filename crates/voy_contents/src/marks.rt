@@ -51,7 +51,7 @@ impl Marks {
         })
     }
 
-    /// The vsn up to which the channel is done, 0 where it has none.
+    /// The vsn up to which the channel is done: that of its last item since the last epoch, or else that of the epoch, or 0.
     pub(crate) fn last(&self, channel: u32) -> u64
         ensures { result ≡ vsns_in self.now.vsns channel }
     {
@@ -114,7 +114,8 @@ impl Marks {
         }
     }
 
-    /// Raises the vsn of the channel, or puts down the batch or the load, and counts. It takes no memory.
+    /// Raises the vsn of the channel, or sets all to that of an epoch, or puts down the batch or the load, and counts. It takes
+    /// no memory.
     pub(crate) fn note(&mut self, txn: &Txn)
         requires names { NamesTables (length self.old.tables) txn.now }
         requires room { HasMarkRoom txn.now self.old.tables }

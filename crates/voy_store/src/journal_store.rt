@@ -1,4 +1,4 @@
-ghost use Rattle.std.specs.Prelude.{◌≡◌, ◌↔◌, true, Some, IfErr, IfOk, IsTrue};
+ghost use Rattle.std.specs.Prelude.{◌≡◌, ◌≤◌, ◌↔◌, true, Some, IfErr, IfOk, IsTrue};
 ghost use Rattle.voy_disk.specs.Calls.{Change};
 ghost use Rattle.voy_disk.specs.Faults.{HasCause};
 ghost use Rattle.voy_disk.specs.Files.{IfTold, bytes_now};
@@ -40,8 +40,10 @@ impl<D: Disk> LogStore<JournalLog<D>> {
             TellsStored schema.tables (bytes_now (fs store_name)) (⟦<JournalStore<D> as Store>⟧.history store))) }
         ensures live { IfOk result (λ store. ⟦<JournalStore<D> as Store>⟧.is_live store ≡ true) }
         ensures stands { IfOk result (λ store. ⟦<JournalStore<D> as Store>⟧.stands store) }
-        ensures left { IfOk result (λ store. Follows Same (HasHistory schema.tables (ImagesOf (D.files disk))) (⟦<JournalStore<D> as Store>⟧.images store)) }
+        ensures histories { IfOk result (λ store. Follows Same (HasHistory schema.tables (ImagesOf (D.files disk))) (⟦<JournalStore<D> as Store>⟧.images store)) }
         ensures beside { IfOk result (λ store. ⟦<JournalStore<D> as Store>⟧.beside store ≡ files_beside store_name (D.files disk)) }
+        ensures faults { IfOk result (λ store. D.faults disk ≤ ⟦<JournalStore<D> as Store>⟧.faults store) }
+        ensures lent { IfOk result (λ store. ⟦<JournalStore<D> as Store>⟧.lender store ≡ D.lender disk) }
         // what it leaves of the disk, whatever it answers
         ensures images { Follows (KeepsPayloads store_name) (ImagesOf (D.files disk)) (ImagesOf (D.files (given_back (λ store. store.log.disk) result))) }
         ensures others { Change (KeepsOtherFiles store_name) (D.files disk) (D.files (given_back (λ store. store.log.disk) result)) }

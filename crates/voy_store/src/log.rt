@@ -19,7 +19,7 @@ use voy_txn::Txn;
 /// A log knows no tables: it takes each lawful transaction. It tells its history, as transactions of a
 /// schema, or does not.
 pub trait Log {
-    /// Its transactions, where it tells them and they are such of this schema.
+    /// Its transactions, where it tells them. A log of bytes tells them as they read by this schema.
     ghost history: { List Table → Self → Option History };
 
     /// What a stop now may leave, as it reads: a history, or none where it does not read as one. Over a disk that

@@ -23,6 +23,11 @@ impl LogStore<MemLog> {
     pub fn new(alloc: Global, schema: Schema) -> Result<MemStore, AllocError>
         ensures schema { IfOk result (λ made. ⟦<MemStore as Store>⟧.schema made ≡ schema.tables) }
         ensures empty { IfOk result (λ made. ⟦<MemStore as Store>⟧.history made ≡ Some []) }
+        ensures live { IfOk result (λ made. ⟦<MemStore as Store>⟧.is_live made ≡ true) }
+        ensures stands { IfOk result (λ made. ⟦<MemStore as Store>⟧.stands made) }
+        ensures faults { IfOk result (λ made. ⟦<MemStore as Store>⟧.faults made ≡ 0) }
+        ensures beside { IfOk result (λ made. ⟦<MemStore as Store>⟧.beside made ≡ None) }
+        ensures lender { IfOk result (λ made. ⟦<MemStore as Store>⟧.lender made ≡ []) }
     {
         let contents = MemContents::new(alloc, schema)?;
         let log = MemLog {

@@ -23,7 +23,7 @@ use Rattle.voy_txn.specs.Commits.{max_payload_bytes}
 use Rattle.voy_txn.specs.Items.{inserts_from, items_of}
 use Rattle.voy_txn.specs.LawfulTxn.{AreLoaded, AreWritten, IsLawfulItem, IsLawfulTxn}
 use Rattle.voy_txn.specs.Payload.{item_part, number, payload_of, rows_part, sized, vsn_bytes}
-use Rattle.voy_txn.specs.Sizes.{AreSortedRows, HasLines, item_size, payload_size, rows_size}
+use Rattle.voy_txn.specs.Sizes.{AreSortedRows, HasLines, ShortRunsAreShort, item_size, payload_size, rows_size}
 use Rattle.voy_txn.specs.TableNames.{width_of}
 use Rattle.voy_txn.specs.declared.txn.Txn.{Txn}
 use Rattle.voy_txn.specs.declared.txn.Txn.TheVariants.{Load, Batch, Events, Epoch}
@@ -194,3 +194,20 @@ short_batch_is_lawful schema t table batch rows found written some number short 
   some = some;
   number = number;
 }
+
+-- the lines of a run take four bytes each beside their own
+lines_and_heads : (schema : List Table) (items : List Event)
+    → sum_by (item_size schema) items ≡ 4 * length items + sum_by (λ (item : Event). length (line_text schema item)) items
+lines_and_heads schema [] = refl
+lines_and_heads schema (item ∷ items) =
+    omega (
+      arith,
+      sum_by-cons (item_size schema) item items,
+      sum_by-cons (λ (i : Event). length (line_text schema i)) item items,
+      lines_and_heads schema items,
+    )
+
+-- a run within the limits is short enough for a store
+pub short_run_is_short : ShortRunsAreShort
+short_run_is_short schema channel items few short =
+    omega (arith, few, short, payload_has_size schema (Events channel items), lines_and_heads schema items)

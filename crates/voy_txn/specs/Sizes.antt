@@ -11,7 +11,7 @@ use Rattle.voy_event.specs.LineText.{line_text}
 use Rattle.voy_event.specs.declared.event.Event.{Event}
 use Rattle.voy_txn.specs.Commits.{max_payload_bytes}
 use Rattle.voy_txn.specs.Items.{items_of}
-use Rattle.voy_txn.specs.LawfulTxn.{IsLawfulTxn}
+use Rattle.voy_txn.specs.LawfulTxn.{IsLawfulTxn, max_items}
 use Rattle.voy_txn.specs.Payload.{payload_of}
 use Rattle.voy_txn.specs.declared.txn.Txn.{Txn}
 use Rattle.voy_txn.specs.declared.txn.Txn.TheVariants.{Load, Batch, Events, Epoch}
@@ -67,3 +67,14 @@ ShortBatchesAreLawful =
     (schema : List Table) (t : Table) (table batch : ℕ) (rows : List (List Value))
     → slice_get schema table ≡ Some t → list_all (is_written t) rows ≡ true → 1 ≤ length rows → batch < 2 ^ 32
     → length (payload_of schema (Batch table batch rows)) ≤ max_payload_bytes → IsLawfulTxn schema (Batch table batch rows)
+
+-- the most bytes of the lines of a run of changes that are taken together
+abbrev pub max_run_bytes : ℕ
+max_run_bytes = 16777216
+
+-- a run of no more changes than a transaction takes, with no more bytes of lines than are taken together, is short enough for a store
+abbrev pub ShortRunsAreShort : Type 0
+ShortRunsAreShort =
+    (schema : List Table) (channel : ℕ) (items : List Event)
+    → length items ≤ max_items → sum_by (λ item. length (line_text schema item)) items ≤ max_run_bytes
+    → length (payload_of schema (Events channel items)) ≤ max_payload_bytes

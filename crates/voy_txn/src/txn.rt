@@ -8,9 +8,9 @@ use voy_tables::RowLists;
 pub enum Txn {
     /// All rows of all tables: for each table of the schema its rows, by ascending key.
     Load { tables: RowLists },
-    /// The rows of one batch of a table's snapshot, at least one, in the snapshot's order.
+    /// The rows of one batch of a table's snapshot, at least one. They come in the snapshot's order, of which a store asks nothing.
     Batch { table: u32, number: u32, rows: Rows },
-    /// 1 to [`MAX_TXN_ITEMS`](crate::MAX_TXN_ITEMS) changes of one channel, by ascending vsn.
+    /// 1 to [`MAX_TXN_ITEMS`](crate::MAX_TXN_ITEMS) changes, by ascending vsn, that are taken as those of this channel.
     Events { channel: u32, items: Events },
     /// From here on there are so many channels, from 1 to [`MAX_CHANNELS`](crate::MAX_CHANNELS), each of them done
     /// up to this vsn.

@@ -14,8 +14,8 @@ returns-in-Ok-read_contents-clause-stored g c = λ fs is.
     (rw c.as_slice.ensures at c.in-Ok-read_contents.ensures.taken)
     (rw c.as_slice.ensures at c.in-Ok-read_contents.ensures.bad))
 
-pub returns-in-Ok-read_contents-clause-left : goal.returns-in-Ok-read_contents-clause-left
-returns-in-Ok-read_contents-clause-left g c =
+pub returns-in-Ok-read_contents-clause-histories : goal.returns-in-Ok-read_contents-clause-histories
+returns-in-Ok-read_contents-clause-histories g c =
     rw c.in-Ok-read_contents.ensures.schema (keeps_histories c.args.schema.tables _ _ c.open_journal.ensures.images)
 
 pub returns-in-Ok-read_contents-clause-beside : goal.returns-in-Ok-read_contents-clause-beside
