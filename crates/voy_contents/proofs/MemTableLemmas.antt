@@ -202,9 +202,6 @@ module _ (t : Table) (key : List (List ℕ)) (before after : Option (List Value)
   at_key : row_at key set.placed ≡ before
   at_key = sym (row_with_key-row_at t key set.placed placed.sorted placed.in_place) ∙ placed_was
 
-  set_rows : RowSlots
-  set_rows = set_value (is_at (key_cmp key)) set.placed after
-
   agree : (n : ℕ) (unique : UniqueKey) (index : TupleSlots) → slice_get t.unique_keys n ≡ Some unique → slice_get moved n ≡ Some index → Agrees unique (set_value (is_at (key_cmp key)) set.placed after) index
   agree n unique index at there = get_within moved indexes n index (sym moves.as_many) there (Agrees unique (set_value (is_at (key_cmp key)) set.placed after) index) (λ first was_there.
       agrees-set t key unique set.placed first placed.sorted (placed.apart n unique at) (placed.agree n unique first at was_there) after

@@ -10,9 +10,9 @@ use Rattle.voy_contents.specs.MemTables.{RowSlots, TupleSlots, tuple_cmp}
 use Rattle.voy_contents.specs.Places.{place_back}
 use Rattle.voy_contents.specs.Traces.{GoesBack, all_back, back, back_at, indexes_back, table_back}
 use Rattle.voy_contents.specs.declared.mem_table.MemTable.{MemTable}
-use Rattle.voy_contents.specs.declared.trace.Place.{Place}
-use Rattle.voy_contents.specs.declared.trace.Place.TheVariants.{Row, Tuple}
-use Rattle.voy_contents.specs.declared.trace.Trace.{Trace}
+use Rattle.voy_contents.specs.declared.traces.Place.{Place}
+use Rattle.voy_contents.specs.declared.traces.Place.TheVariants.{Row, Tuple}
+use Rattle.voy_contents.specs.declared.traces.Trace.{Trace}
 use Rattle.voy_tables.specs.Keys.{key_cmp}
 
 -- the last trace is the first to lead back
