@@ -1,6 +1,7 @@
 -- What contents in memory say of a history, and how a transaction changes them.
 use Rattle.std.specs.Prelude.{◌≡◌, ◌||◌, ℕ, List, Option, Some, None, length, slice_get}
 use Rattle.voy_schema.specs.declared.table.Table.{Table}
+use Rattle.voy_schema.specs.declared.value.Value.{Value}
 use Rattle.voy_contents.specs.Marks.{HasMarkRoom, NamesTables, says}
 use Rattle.voy_contents.specs.Places.{index_places}
 use Rattle.voy_contents.specs.TableLists.{lists_of}
