@@ -1,9 +1,9 @@
 -- Changes that are done one after the other.
-use Rattle.std.proofs.Common.{◌≡◌, ◌≢◌, ◌+◌, ◌<◌, ◌≤◌, ℕ, zero, suc, Bool, true, List, [], ◌∷◌, ◌++◌, Option, Some, None, Result, Ok, Err, IfErr, OnOk, length, map, drop, refl, sym, ap, ◌∙◌, subst, arith}
+use Rattle.std.proofs.Common.{◌≡◌, ◌+◌, ℕ, suc, Bool, true, List, [], ◌∷◌, ◌++◌, Option, Some, None, length, map, drop, refl, sym, ap, ◌∙◌, subst, arith}
 use Rattle.std.proofs.lemmas.Bool.{and_from, and_parts}
 use Rattle.std.proofs.lemmas.List.{append_assoc, length-append}
-use Rattle.std.specs.List.{cons_option, filter_map, list_all}
-use Rattle.std.specs.Prelude.{◌&&◌, slice_get}
+use Rattle.std.specs.List.{cons_option, list_all}
+use Rattle.std.specs.Prelude.{slice_get}
 use Rattle.voy_event.specs.Events.{change_in, changes_in}
 use Rattle.voy_event.specs.declared.event.Event.{Event}
 use Rattle.voy_schema.specs.declared.table.Table.{Table}
@@ -13,12 +13,11 @@ use Rattle.voy_contents.specs.Done.{AreDone, IsDone, IsLoaded, IsStopped, item_e
 use Rattle.voy_contents.specs.TableLists.{AreMemTables, DoesChange, lists_of}
 use Rattle.voy_contents.specs.Refusals.{IsRefused}
 use Rattle.voy_contents.specs.declared.mem_table.MemTable.{MemTable}
-use Rattle.voy_tables.specs.Changes.{is_well_formed, row_change}
+use Rattle.voy_tables.specs.Changes.{row_change}
 use Rattle.voy_tables.specs.Folds.{first_misfit, first_of}
 use Rattle.voy_tables.specs.Lists.{empty_lists, fold_lists, lists_after, misfit_of}
 use Rattle.voy_tables.specs.declared.change.Change.{Change}
 use Rattle.voy_tables.specs.declared.change.Change.TheVariants.{Insert}
-use Rattle.voy_tables.specs.declared.change.Misfit.{Misfit}
 use Rattle.voy_tables.specs.declared.change.PlainError.{PlainError}
 use Rattle.voy_tables.specs.declared.change.PlainError.TheVariants as refused
 use Rattle.voy_txn.specs.Commits.{HasReason}
@@ -27,7 +26,6 @@ use Rattle.voy_txn.specs.Items.{inserts_from, violation_of}
 use Rattle.voy_txn.specs.declared.txn.Txn.{Txn}
 use Rattle.voy_txn.specs.declared.txn.Txn.TheVariants.{Batch, Events}
 use Rattle.voy_txn.specs.declared.store_error.StoreError.{StoreError}
-use Rattle.voy_txn.specs.declared.store_error.StoreError.TheVariants.{Fault, NoMemory, Violation}
 
 -- at first all are left
 pub none_done : (schema : List Table) (all : List Change) (first : ℕ) (tables : List MemTable) → AreMemTables schema tables → AreDone schema all first all first tables tables

@@ -1,5 +1,5 @@
 -- What a table in memory keeps: at first, when a place is made, when its indexes say the same, and when a row is set.
-use Rattle.std.proofs.Common.{◌≡◌, ◌<◌, ◌≤◌, ◌⊎◌, inl, inr, arith, get_or, ℕ, zero, suc, Bool, true, false, List, [], ◌∷◌, Option, Some, None, Result, Ok, Err, IfOk, OnOk, Ordering, length, map, refl, sym, ap, ◌∙◌, subst}
+use Rattle.std.proofs.Common.{◌≡◌, ◌<◌, ◌⊎◌, inl, inr, arith, get_or, ℕ, zero, suc, Bool, true, false, List, [], ◌∷◌, Option, Some, None, Result, Ok, Err, IfOk, OnOk, Ordering, length, map, refl, sym, ap, ◌∙◌, subst}
 use Rattle.std.proofs.lemmas.Bool.{and_from, and_parts, cond-true, false≢true, lt-ltb}
 use Rattle.std.proofs.lemmas.Map.{keys-set_value}
 use Rattle.std.proofs.lemmas.Option.{none-some, same_Some, slice_get-get_or, slice_get_within}
@@ -9,7 +9,7 @@ use Rattle.std.specs.List.Sorted.{IsStrictlySortedBy}
 use Rattle.std.specs.Map.{keys_of, lookup, set_value}
 use Rattle.std.specs.Option.{IsSome}
 use Rattle.std.specs.Ordering.{is_eq, match_ordering}
-use Rattle.std.specs.Prelude.{◌&&◌, ◌+◌, not, cond, ltb, option_map, slice_get, unwrap_or}
+use Rattle.std.specs.Prelude.{◌&&◌, not, cond, ltb, option_map, slice_get}
 use Rattle.std.specs.declared.cmp.Ordering.TheVariants.{Less, Equal, Greater}
 use Rattle.voy_schema.specs.Rows.{counting_tuple}
 use Rattle.voy_schema.specs.declared.table.Table.{Table}
@@ -19,7 +19,7 @@ use Rattle.voy_contents.proofs.ListLemmas.{get_within, length_map}
 use Rattle.voy_contents.proofs.PlaceLemmas.{insert_as_set, lookup_placed, or_else, placed_there, with_place}
 use Rattle.voy_contents.proofs.RowLemmas.{in_place-set, key_exact, key_order, row_with_key-row_at, rows_after-set}
 use Rattle.voy_contents.proofs.TupleLemmas.{agrees-set, apart-set, has_tuple-nothing, is_taken-listed, is_taken-nothing, is_taken-others, own-listed}
-use Rattle.voy_contents.specs.MemTables.{Agrees, AllMove, IsFirstTaken, IsMemTable, IsMoved, IsRowSet, IsTakenAt, NoneTaken, SayTheSame, RowSlots, TupleSlots, are_in_place, are_listed, has_tuple, is_in_place, is_listed, is_taken_by, row_at, rows_of, standing}
+use Rattle.voy_contents.specs.MemTables.{Agrees, AllMove, IsFirstTaken, IsMemTable, IsRowSet, NoneTaken, SayTheSame, RowSlots, TupleSlots, are_in_place, are_listed, has_tuple, is_in_place, is_listed, is_taken_by, row_at, rows_of, standing}
 use Rattle.voy_tables.specs.Keys.{key_cmp, same_tuple}
 use Rattle.voy_tables.specs.Lists.{is_taken, row_with_key, rows_after, unique_misfit}
 use Rattle.voy_tables.specs.MisfitLaws.{position-none}
@@ -201,9 +201,6 @@ module _ (t : Table) (key : List (List ℕ)) (before after : Option (List Value)
 
   at_key : row_at key set.placed ≡ before
   at_key = sym (row_with_key-row_at t key set.placed placed.sorted placed.in_place) ∙ placed_was
-
-  set_rows : RowSlots
-  set_rows = set_value (is_at (key_cmp key)) set.placed after
 
   agree : (n : ℕ) (unique : UniqueKey) (index : TupleSlots) → slice_get t.unique_keys n ≡ Some unique → slice_get moved n ≡ Some index → Agrees unique (set_value (is_at (key_cmp key)) set.placed after) index
   agree n unique index at there = get_within moved indexes n index (sym moves.as_many) there (Agrees unique (set_value (is_at (key_cmp key)) set.placed after) index) (λ first was_there.

@@ -5,14 +5,13 @@ use Rattle.std.proofs.lemmas.Option.{none-some, same_Some}
 use Rattle.std.specs.Prelude.{◌&&◌, IsSome, nat_eq, slice_get, slice_set, if◌then◌else◌}
 use Rattle.voy_schema.specs.Rows.{key_of}
 use Rattle.voy_schema.specs.declared.table.Table.{Table}
-use Rattle.voy_schema.specs.declared.value.Value.{Value}
 use Rattle.voy_contents.proofs.ListLemmas.{get_push, get_set, length_push, length_set, set_same_at}
 use Rattle.voy_contents.specs.MemTables.{IsMemTable, SweepsRows, is_in_place, rows_of}
 use Rattle.voy_contents.specs.TableLists.{AreMemTables, DoesChange, SweepsLists, lists_of}
 use Rattle.voy_contents.specs.declared.mem_table.MemTable.{MemTable}
-use Rattle.voy_tables.specs.Changes.{RowChange, after_of, before_of, id_of, is_row_of, is_well_formed, key_changed, key_in, keyed_row, row_change, table_of}
+use Rattle.voy_tables.specs.Changes.{RowChange, after_of, before_of, is_row_of, is_well_formed, key_changed, key_in, keyed_row, row_change, table_of}
 use Rattle.voy_tables.specs.Keys.{same_key}
-use Rattle.voy_tables.specs.Lists.{empty_lists, lists_after, misfit_by, misfit_of, row_with_key, rows_after, rows_in, unique_misfit}
+use Rattle.voy_tables.specs.Lists.{empty_lists, misfit_by, misfit_of, row_with_key, rows_after, unique_misfit}
 use Rattle.voy_tables.specs.SameLaws.{same_key-decides}
 use Rattle.voy_tables.specs.declared.change.Change.{Change}
 use Rattle.voy_tables.specs.declared.change.Change.TheVariants.{Insert, Update, Delete}

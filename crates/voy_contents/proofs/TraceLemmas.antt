@@ -1,8 +1,5 @@
 -- Traces that lead back to the tables that stood before.
-use Rattle.std.proofs.Common.{◌≡◌, ◌+◌, ◌-◌, ◌<◌, ◌≤◌, ℕ, zero, suc, Bool, List, [], ◌∷◌, ◌++◌, Option, Some, None, length, take, refl, sym, ap, ◌∙◌, subst, arith}
-use Rattle.std.proofs.lemmas.Option.{none-some}
-use Rattle.std.specs.BTreeMap.{is_at}
-use Rattle.std.specs.Map.{lookup}
+use Rattle.std.proofs.Common.{◌≡◌, ◌+◌, ◌≤◌, ℕ, Bool, List, [], ◌∷◌, ◌++◌, Option, Some, length, refl, sym, ap, ◌∙◌, subst, arith}
 use Rattle.std.specs.Prelude.{slice_get, slice_set}
 use Rattle.voy_schema.specs.declared.value.Value.{Value}
 use Rattle.voy_contents.proofs.ListLemmas.{set_back_at, set_same_at, set_there, set_twice}
@@ -10,9 +7,9 @@ use Rattle.voy_contents.specs.MemTables.{RowSlots, TupleSlots, tuple_cmp}
 use Rattle.voy_contents.specs.Places.{place_back}
 use Rattle.voy_contents.specs.Traces.{GoesBack, all_back, back, back_at, indexes_back, table_back}
 use Rattle.voy_contents.specs.declared.mem_table.MemTable.{MemTable}
-use Rattle.voy_contents.specs.declared.trace.Place.{Place}
-use Rattle.voy_contents.specs.declared.trace.Place.TheVariants.{Row, Tuple}
-use Rattle.voy_contents.specs.declared.trace.Trace.{Trace}
+use Rattle.voy_contents.specs.declared.traces.Place.{Place}
+use Rattle.voy_contents.specs.declared.traces.Place.TheVariants.{Row, Tuple}
+use Rattle.voy_contents.specs.declared.traces.Trace.{Trace}
 use Rattle.voy_tables.specs.Keys.{key_cmp}
 
 -- the last trace is the first to lead back

@@ -9,7 +9,7 @@ use Rattle.voy_contents.specs.TableLists.{lists_of}
 use Rattle.voy_contents.specs.Tables.{CanGoBack, lists_in, schema_in}
 use Rattle.voy_contents.specs.WayBack.{goes_back}
 use Rattle.voy_contents.specs.declared.contents.MemContents.{MemContents}
-use Rattle.voy_contents.specs.declared.done.Done.{Done}
+use Rattle.voy_contents.specs.declared.way_back.Done.{Done}
 use Rattle.voy_contents.specs.declared.mem_table.MemTable.{MemTable}
 use Rattle.voy_txn.specs.Contents.{Contents, is_batch}
 use Rattle.voy_txn.specs.History.{batch_of, batch_rows_after, changes_after, channels_after, is_load, tables_after, vsns_after}

@@ -6,6 +6,7 @@ pub mod Refusals
 pub mod WayBack
 pub mod Done
 pub mod Tables
+pub mod TableLaws
 pub mod Numbers
 pub mod Vsns
 pub mod Marks

@@ -1,9 +1,8 @@
 -- Values by key, each at a place of its own.
-use Rattle.std.specs.Prelude.{ℕ, Bool, List, Option, Some, None, length}
+use Rattle.std.specs.Prelude.{ℕ, List, Option, Some, None, length}
 use Rattle.std.specs.BTreeMap.{is_at}
 use Rattle.std.specs.Map.{remove_entry, set_value}
 use Rattle.std.specs.declared.cmp.Ordering.{Ordering}
-use Rattle.voy_schema.specs.declared.value.Value.{Value}
 use Rattle.voy_contents.specs.MemTables.{TupleSlots}
 
 -- the values once the place of a key holds again what it held; where there was none, it is gone

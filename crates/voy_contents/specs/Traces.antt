@@ -4,9 +4,9 @@ use Rattle.voy_schema.specs.declared.value.Value.{Value}
 use Rattle.voy_contents.specs.MemTables.{TupleSlots, tuple_cmp}
 use Rattle.voy_contents.specs.Places.{place_back}
 use Rattle.voy_contents.specs.declared.mem_table.MemTable.{MemTable}
-use Rattle.voy_contents.specs.declared.trace.Place.{Place}
-use Rattle.voy_contents.specs.declared.trace.Place.TheVariants.{Row, Tuple}
-use Rattle.voy_contents.specs.declared.trace.Trace.{Trace}
+use Rattle.voy_contents.specs.declared.traces.Place.{Place}
+use Rattle.voy_contents.specs.declared.traces.Place.TheVariants.{Row, Tuple}
+use Rattle.voy_contents.specs.declared.traces.Trace.{Trace}
 use Rattle.voy_tables.specs.Keys.{key_cmp}
 
 -- the indexes once the place of a tuple holds again what it held

@@ -11,7 +11,7 @@ ghost use Rattle.voy_contents.specs.declared.mem_table.MemTable.{MemTable};
 ghost use Rattle.voy_tables.specs.declared.change.Change.{Change};
 
 use crate::mem_table::{MemTable, MemTables};
-use crate::trace::Trace;
+use crate::traces::Trace;
 use std::alloc::{AllocError, Global};
 use voy_schema::{Items, Key, Row, Schema, Table};
 use voy_tables::{Change, Misfit, PlainError, key_of};

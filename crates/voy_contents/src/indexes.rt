@@ -1,14 +1,17 @@
 ghost use Rattle.std.specs.Prelude.{◌≡◌, List, Some, cond, IfOk, OnErr, OnOk};
+ghost use Rattle.std.specs.Option.{option_copied};
 ghost use Rattle.std.specs.BTreeMap.{is_at};
 ghost use Rattle.std.specs.Map.{lookup};
-ghost use Rattle.voy_contents.specs.MemTables.{is_listed, tuple_cmp};
+ghost use Rattle.voy_contents.specs.MemTables.{is_listed, is_taken_by, tuple_cmp};
 ghost use Rattle.voy_contents.specs.Places.{place_back};
+ghost use Rattle.voy_schema.specs.Rows.{counting_tuple};
 ghost use Rattle.voy_schema.specs.declared.value.Value.{Value};
 ghost use Rattle.voy_tables.specs.Keys.{same_tuple};
 
 use crate::places::Places;
-use std::alloc::AllocError;
-use voy_schema::{Tuple, Value};
+use crate::tuples::{keeps_tuple, tuple_of};
+use std::alloc::{AllocError, Global};
+use voy_schema::{Row, Tuple, UniqueKey, Value};
 
 /// The tuples of one unique key, with whether a row has them.
 pub(crate) type Index = Places<Tuple<Value>, bool>;
@@ -33,7 +36,7 @@ pub(crate) fn put_tuple(
 }
 
 /// Whether a row has this tuple.
-pub(crate) fn is_listed(index: &Index, tuple: &Tuple<Value>) -> bool
+fn is_listed(index: &Index, tuple: &Tuple<Value>) -> bool
     ensures { result ≡ is_listed tuple.now index.now }
 {
     match index.get(tuple) {
@@ -48,5 +51,24 @@ pub(crate) fn sweep_tuple(index: &mut Index, tuple: &Tuple<Value>)
 {
     if !is_listed(index, tuple) {
         index.take_away(tuple);
+    }
+}
+
+/// Whether a row other than the one that is changed has the tuple of the row after the change.
+pub(crate) fn is_taken(
+    alloc: Global,
+    index: &Index,
+    unique: &UniqueKey,
+    before: Option<&Row>,
+    after: Option<&Row>,
+) -> Result<bool, AllocError>
+    ensures { IfOk result (λ taken. is_taken_by (counting_tuple unique.now (option_copied before.entry)) (counting_tuple unique.now (option_copied after.entry)) index.now ≡ taken) }
+{
+    if keeps_tuple(unique, before, after) {
+        return Ok(false);
+    }
+    match tuple_of(alloc, unique, after)? {
+        Some(tuple) => Ok(is_listed(index, &tuple)),
+        None => Ok(false),
     }
 }

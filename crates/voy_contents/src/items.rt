@@ -14,7 +14,7 @@ ghost use Rattle.voy_txn.specs.declared.store_error.StoreError.TheVariants.{Faul
 
 use crate::changes::{do_change, do_insert, empty_tables};
 use crate::mem_table::MemTables;
-use crate::trace::Trace;
+use crate::traces::Trace;
 use std::alloc::Global;
 use voy_event::{Event, What};
 use voy_schema::{Row, Schema};

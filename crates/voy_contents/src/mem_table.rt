@@ -1,30 +1,27 @@
-ghost use Rattle.std.specs.Prelude.{◌≡◌, ◌++◌, ◌^◌, ◌<◌, [], ℕ, None, Some, true, IfErr, IfOk, OnErr, OnOk, length, slice_get};
-ghost use Rattle.std.specs.BTreeMap.{is_at};
-ghost use Rattle.std.specs.List.{cons_option};
-ghost use Rattle.std.specs.Map.{lookup};
+ghost use Rattle.std.specs.Prelude.{◌≡◌, ◌^◌, ◌<◌, [], None, Some, true, IfErr, IfOk, OnOk, length, slice_get};
 ghost use Rattle.std.specs.Option.{option_copied};
-ghost use Rattle.voy_contents.specs.MemTables.{AllMove, IsFirstTaken, IsMemTable, IsRowSet, Lists, Moves, SweepsRows, TupleSlots, are_listed, is_in_place, is_taken_by, row_at, rows_of, standing};
-ghost use Rattle.voy_contents.specs.Places.{index_places, place_back};
+ghost use Rattle.voy_contents.specs.MemTables.{AllMove, IsFirstTaken, IsMemTable, IsRowSet, Lists, Moves, SweepsRows, TupleSlots, are_listed, is_in_place, is_taken_by, row_at, rows_of};
+ghost use Rattle.voy_contents.specs.Places.{index_places};
 ghost use Rattle.voy_contents.specs.Refusals.{IsRefused};
 ghost use Rattle.voy_contents.specs.Traces.{GoesBack, table_back};
 ghost use Rattle.voy_schema.specs.Rows.{counting_tuple};
 ghost use Rattle.voy_schema.specs.declared.table.Table.{Table};
-ghost use Rattle.voy_tables.specs.Keys.{key_cmp};
 ghost use Rattle.voy_tables.specs.Lists.{misfit_by, row_with_key, rows_after, unique_misfit};
 ghost use Rattle.voy_txn.specs.History.{counted};
 
-use crate::indexes::{Index, is_listed, put_tuple, sweep_tuple};
+use crate::indexes::{Index, is_taken, put_tuple, sweep_tuple};
 use crate::places::Places;
-use crate::trace::{Place, Trace};
+use crate::row_places::{RowPlaces, copied, misfit_beside, push_row, put_row, standing};
+use crate::traces::{Place, Trace};
 use crate::tuples::{keeps_tuple, tuple_of};
 use std::alloc::{AllocError, Global};
-use voy_schema::{Copies, Items, Key, Row, Rows, Table, Tuple, UniqueKey, Value};
+use voy_schema::{Items, Key, Row, Rows, Table, Tuple, UniqueKey, Value};
 use voy_tables::{Misfit, PlainError};
 
 /// The rows of one table by key, and for each of its unique keys an index of the tuples that count.
 #[derive(Drop)]
 pub(crate) struct MemTable {
-    pub(crate) rows: Places<Key, Option<Row>>,
+    pub(crate) rows: RowPlaces,
     pub(crate) indexes: Items<Index>,
 }
 
@@ -345,101 +342,6 @@ impl MemTable {
         let at = unique as usize;
         if at < self.indexes.len() {
             sweep_tuple(self.indexes.item_mut(at), tuple);
-        }
-    }
-}
-
-/// Sets what stands at the key, at a place of its own where a change has no row before, and gives what the place
-/// held. After an error nothing changed.
-fn put_row(
-    rows: &mut Places<Key, Option<Row>>,
-    key: &Key,
-    before: Option<&Row>,
-    row: Option<Row>,
-) -> Result<Option<Option<Row>>, AllocError>
-    ensures held { IfOk result (λ held. held ≡ lookup (is_at (key_cmp key.now)) rows.old) }
-    ensures back { IfOk result (λ held. place_back key_cmp rows.new key.now held ≡ rows.old) }
-    ensures set { IfOk result (λ held. standing held ≡ option_copied before.entry → IsRowSet key.now row rows.old rows.new) }
-    ensures err { OnErr result (rows.new ≡ rows.old) }
-{
-    match before {
-        None => rows.put(key, row),
-        Some(_row) => Ok(rows.set(key, row)),
-    }
-}
-
-/// The row that a place held.
-fn standing(held: &Option<Option<Row>>) -> Option<&Row>
-    ensures { option_copied result ≡ standing held.now }
-{
-    match held {
-        Some(Some(row)) => Some(row),
-        _ => None,
-    }
-}
-
-fn copied(row: Option<&Row>) -> Result<Option<Row>, AllocError>
-    ensures { IfOk result (λ made. made ≡ option_copied row.entry) }
-{
-    match row {
-        Some(row) => Ok(Some(row.copy()?)),
-        None => Ok(None),
-    }
-}
-
-/// Puts a copy of the row, if there is one, at the end.
-fn push_row(rows: &mut Rows, row: &Option<Row>) -> Result<(), AllocError>
-    ensures { OnOk result (rows.new ≡ rows.old ++ cons_option row.now []) }
-{
-    match row {
-        Some(row) => rows.push(row.copy()?),
-        None => Ok(()),
-    }
-}
-
-/// Whether a row other than the one that is changed has the tuple of the row after the change.
-fn is_taken(
-    alloc: Global,
-    index: &Index,
-    unique: &UniqueKey,
-    before: Option<&Row>,
-    after: Option<&Row>,
-) -> Result<bool, AllocError>
-    ensures { IfOk result (λ taken. is_taken_by (counting_tuple unique.now (option_copied before.entry)) (counting_tuple unique.now (option_copied after.entry)) index.now ≡ taken) }
-{
-    if keeps_tuple(unique, before, after) {
-        return Ok(false);
-    }
-    match tuple_of(alloc, unique, after)? {
-        Some(tuple) => Ok(is_listed(index, &tuple)),
-        None => Ok(false),
-    }
-}
-
-/// Why the row that stands is not the one before a change.
-fn misfit_beside(before: Option<&Row>, standing: Option<&Row>) -> Option<Misfit>
-    ensures { result ≡ misfit_by (option_copied before.entry) (option_copied standing.entry) None }
-{
-    match before {
-        None => match standing {
-            Some(_row) => Some(Misfit::KeyTaken),
-            None => None,
-        },
-        Some(before) => misfit_instead(before, standing),
-    }
-}
-
-fn misfit_instead(before: &Row, standing: Option<&Row>) -> Option<Misfit>
-    ensures { result ≡ misfit_by (Some before.now) (option_copied standing.entry) None }
-{
-    match standing {
-        None => Some(Misfit::NoRow),
-        Some(row) => {
-            if *row == *before {
-                None
-            } else {
-                Some(Misfit::OtherRow)
-            }
         }
     }
 }

@@ -3,7 +3,33 @@ ghost use Rattle.voy_contents.specs.TableLists.{SweepsLists};
 ghost use Rattle.voy_contents.specs.Traces.{all_back, back};
 
 use crate::mem_table::{MemTable, MemTables};
-use crate::trace::Trace;
+use voy_schema::{Key, Row, Tuple, Value};
+
+/// A place of one table that was set, with what it held before: a row or none, or whether a tuple was listed,
+/// and `None` where there was no place.
+///
+/// `emptied` is whether it was left with nothing, so that it is to be swept once it is not needed for the way back.
+#[derive(Drop)]
+pub(crate) enum Place {
+    Row {
+        key: Key,
+        held: Option<Option<Row>>,
+        emptied: bool,
+    },
+    Tuple {
+        unique: u32,
+        tuple: Tuple<Value>,
+        held: Option<bool>,
+        emptied: bool,
+    },
+}
+
+/// A place that was set, of the table at this place of the schema.
+#[derive(Drop)]
+pub(crate) struct Trace {
+    pub(crate) table: u32,
+    pub(crate) place: Place,
+}
 
 /// Sets all places back to what they held, the last one first. It takes no memory.
 pub(crate) fn undo(tables: &mut MemTables, traces: &mut Vec<Trace>)

@@ -10,8 +10,7 @@ ghost use Rattle.voy_txn.specs.declared.store_error.StoreError.TheVariants.{Faul
 
 use crate::items::{do_events, insert_rows, load};
 use crate::mem_table::MemTables;
-use crate::trace::Trace;
-use crate::traces::{sweep, undo};
+use crate::traces::{Trace, sweep, undo};
 use std::alloc::Global;
 use std::mem::replace;
 use voy_schema::Schema;
@@ -23,6 +22,12 @@ use voy_txn::{StoreError, Txn};
 pub(crate) enum WayBack {
     Traces(Vec<Trace>),
     Tables(MemTables),
+}
+
+/// What was done for a transaction, so that it can be done back.
+#[derive(Drop)]
+pub struct Done {
+    pub(crate) way: WayBack,
 }
 
 /// Does the items of `txn` in the tables, and gives the way back; or it answers the first that does not fit.

@@ -1,6 +1,5 @@
 use Rattle.std.proofs.Common.{◌≡◌, ◌<◌, IfOk, Some, arith, ap, length, subst, sym, ◌∙◌}
 use Rattle.std.proofs.lemmas.Option.{slice_get_within}
-use Rattle.std.specs.Option.{option_copied}
 use Rattle.std.specs.Prelude.{slice_get, slice_index_or}
 use Rattle.voy_contents.proofs.ListLemmas.{get_at}
 use Rattle.voy_contents.proofs.TableListLemmas.{change_is, misfit_at}

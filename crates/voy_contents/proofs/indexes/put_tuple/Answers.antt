@@ -1,5 +1,4 @@
-use Rattle.std.proofs.Common.{OnOk, List, false, true, ap, ◌≡◌, ◌∙◌}
-use Rattle.std.specs.Prelude.{Some, cond}
+use Rattle.std.proofs.Common.{false, true, ap, ◌∙◌}
 use Rattle.voy_contents.proofs.PlaceLemmas.{put_undone, set_undone}
 use Rattle.voy_contents.proofs.TupleLemmas.{listed-off, put_listed, tuple_exact, tuple_order}
 use Rattle.voy_contents.specs.MemTables.{is_listed, tuple_cmp}

@@ -1,4 +1,4 @@
-use Rattle.std.proofs.Common.{◌≡◌, ◌+◌, [], arith, ap, drop, subst, sym, ◌∙◌}
+use Rattle.std.proofs.Common.{◌+◌, [], arith, ap, drop, subst, sym, ◌∙◌}
 use Rattle.std.proofs.lemmas.Result.{err_from_is_err_and}
 use Rattle.std.specs.List.{cons_option, list_all}
 use Rattle.voy_contents.proofs.DoneLemmas.{all_parts, done_on, events_at, stopped_on}

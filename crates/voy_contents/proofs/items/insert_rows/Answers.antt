@@ -1,4 +1,4 @@
-use Rattle.std.proofs.Common.{◌≡◌, ◌+◌, [], ◌∷◌, true, List, arith, ap, drop, length, map, refl, subst, sym, ◌∙◌}
+use Rattle.std.proofs.Common.{◌≡◌, ◌+◌, [], ◌∷◌, arith, ap, drop, length, map, subst, sym, ◌∙◌}
 use Rattle.std.proofs.lemmas.Bool.{and_parts}
 use Rattle.std.proofs.lemmas.List.{drop_all}
 use Rattle.std.specs.List.{list_all}
@@ -6,7 +6,6 @@ use Rattle.voy_contents.proofs.DoneLemmas.{done_on, one_done, one_stopped, rows_
 use Rattle.voy_contents.proofs.ListLemmas.{get_at}
 use Rattle.voy_contents.specs.Done.{AreDone, IsStopped}
 use Rattle.voy_tables.specs.Changes.{is_well_formed}
-use Rattle.voy_tables.specs.declared.change.Change.{Change}
 use Rattle.voy_tables.specs.declared.change.Change.TheVariants.{Insert}
 use Rattle.voy_contents.proofs.items.insert_rows.Goals as goal
 

@@ -1,11 +1,11 @@
-use Rattle.std.proofs.Common.{◌≡◌, ap, refl, subst, sym, ◌∙◌}
+use Rattle.std.proofs.Common.{ap, refl, subst, sym, ◌∙◌}
 use Rattle.std.proofs.lemmas.Option.{same_Some}
-use Rattle.std.specs.Prelude.{not, slice_get, slice_set, unwrap_or, false}
+use Rattle.std.specs.Prelude.{not, slice_set, unwrap_or, false}
 use Rattle.voy_contents.proofs.ListLemmas.{get_at, set_same_at}
 use Rattle.voy_contents.proofs.MoveLemmas.{none_lists, one_lists}
 use Rattle.voy_contents.proofs.TraceLemmas.{one_more_back, same_back, tuple_back}
 use Rattle.voy_contents.specs.MemTables.{Lists, are_listed, is_listed}
-use Rattle.voy_contents.specs.declared.trace.Place.TheVariants.{Tuple}
+use Rattle.voy_contents.specs.declared.traces.Place.TheVariants.{Tuple}
 use Rattle.voy_contents.proofs.mem_table.MemTable.list.Goals as goal
 
 pub returns-in_err-reserve-in-Some-clause-back : goal.returns-in_err-reserve-in-Some-clause-back

@@ -1,4 +1,4 @@
-use Rattle.std.proofs.Common.{◌≡◌, ap, refl, subst, sym, true, false, ◌∙◌}
+use Rattle.std.proofs.Common.{ap, refl, subst, sym, true, false, ◌∙◌}
 use Rattle.std.specs.Option.{option_copied}
 use Rattle.voy_contents.proofs.MoveLemmas.{kept_is_free, kept_moves, listed_moves, taken_is_listed}
 use Rattle.voy_contents.proofs.TraceLemmas.{back_on, same_back}

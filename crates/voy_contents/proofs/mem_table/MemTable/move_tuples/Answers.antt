@@ -1,4 +1,4 @@
-use Rattle.std.proofs.Common.{◌<◌, ◌≤◌, arith, length, refl, ◌∙◌}
+use Rattle.std.proofs.Common.{◌≤◌, arith, refl, ◌∙◌}
 use Rattle.std.specs.Option.{option_copied}
 use Rattle.voy_contents.proofs.ListLemmas.{get_at}
 use Rattle.voy_contents.proofs.MoveLemmas.{none_moved, none_taken_more, one_moved, taken_here}

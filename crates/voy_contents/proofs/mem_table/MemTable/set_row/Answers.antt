@@ -2,7 +2,7 @@ use Rattle.std.proofs.Common.{refl, subst, sym, ◌∙◌, ap}
 use Rattle.std.specs.Option.{option_copied}
 use Rattle.voy_contents.proofs.TraceLemmas.{one_more_back, row_back, same_back}
 use Rattle.voy_contents.specs.MemTables.{IsRowSet, standing}
-use Rattle.voy_contents.specs.declared.trace.Place.TheVariants.{Row}
+use Rattle.voy_contents.specs.declared.traces.Place.TheVariants.{Row}
 use Rattle.voy_tables.specs.Lists.{misfit_by}
 use Rattle.voy_tables.specs.MisfitLaws.{stands_as_said}
 use Rattle.std.specs.Prelude.{None}

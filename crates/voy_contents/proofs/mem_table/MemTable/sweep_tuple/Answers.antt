@@ -1,4 +1,4 @@
-use Rattle.std.proofs.Common.{◌<◌, arith, length, refl}
+use Rattle.std.proofs.Common.{◌<◌, arith, length}
 use Rattle.voy_contents.proofs.ListLemmas.{get_at}
 use Rattle.voy_contents.proofs.SweepLemmas.{indexes_swept, one_swept, same_said}
 use Rattle.std.specs.Prelude.{slice_set}

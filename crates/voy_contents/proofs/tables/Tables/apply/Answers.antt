@@ -1,4 +1,4 @@
-use Rattle.std.proofs.Common.{ap, subst, sym, ◌∙◌}
+use Rattle.std.proofs.Common.{◌∙◌}
 use Rattle.voy_contents.proofs.ContentsLemmas.{change_stays_clean}
 use Rattle.voy_contents.specs.TableLists.{lists_of}
 use Rattle.voy_contents.specs.Tables.{schema_in}

@@ -2,7 +2,7 @@ use Rattle.std.proofs.Common.{ap, sym, ◌∙◌}
 use Rattle.std.specs.Option.{option_copied}
 use Rattle.voy_contents.proofs.MoveLemmas.{kept_is_free, taken_is_listed}
 use Rattle.voy_contents.specs.MemTables.{are_listed}
-use Rattle.voy_contents.proofs.mem_table.is_taken.Goals as goal
+use Rattle.voy_contents.proofs.indexes.is_taken.Goals as goal
 
 pub returns-then-keeps_tuple : goal.returns-then-keeps_tuple
 returns-then-keeps_tuple c =

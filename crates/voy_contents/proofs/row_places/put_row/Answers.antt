@@ -6,7 +6,7 @@ use Rattle.voy_contents.proofs.RowLemmas.{key_exact, key_order}
 use Rattle.voy_contents.specs.MemTables.{IsRowSet}
 use Rattle.voy_contents.specs.Places.{place_back}
 use Rattle.voy_tables.specs.Keys.{key_cmp}
-use Rattle.voy_contents.proofs.mem_table.put_row.Goals as goal
+use Rattle.voy_contents.proofs.row_places.put_row.Goals as goal
 
 pub returns-in-None-clause-back : goal.returns-in-None-clause-back
 returns-in-None-clause-back c =

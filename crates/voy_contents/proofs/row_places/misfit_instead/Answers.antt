@@ -4,7 +4,7 @@ use Rattle.std.specs.Option.{option_copied}
 use Rattle.voy_schema.specs.EqualLaws.{values_eq-decides}
 use Rattle.voy_tables.specs.Lists.{misfit_by}
 use Rattle.voy_tables.specs.MisfitLaws.{misfit_by-other, misfit_by-same}
-use Rattle.voy_contents.proofs.mem_table.misfit_instead.Goals as goal
+use Rattle.voy_contents.proofs.row_places.misfit_instead.Goals as goal
 
 pub returns-then-eq : goal.returns-then-eq
 returns-then-eq c =
