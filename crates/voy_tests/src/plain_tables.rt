@@ -6,10 +6,11 @@ use crate::store_texts::{commit, events};
 use std::alloc::{AllocError, AllocGlobal, Global};
 use std::process::Abort;
 use std::test::Fail;
+use voy_contents::Tables;
 use voy_event::What;
 use voy_schema::{Copies, Schema};
 use voy_store::MemStore;
-use voy_tables::{Change, Plain, well_formed};
+use voy_tables::{Change, Plain, PlainError, well_formed};
 use voy_txn::{Store, StoreError, Txn, read_txn};
 
 /// How many changes are drawn.
@@ -59,6 +60,52 @@ fn try_draw(
         _ => return Err("another answer than that of plain tables".into()),
     };
     let rows = store.rows(0)?;
+    assert!(rt; rows.as_slice() == plain.table_rows(0));
+    Ok(taken)
+}
+
+#[test]
+fn tables_with_keys_agree_with_plain_tables(rt: HostRuntime) -> Result<(), Fail> {
+    let alloc = rt.alloc();
+    let schema = users(alloc)?;
+    let mut tables = Tables::new(alloc, schema.copy()?)?;
+    let mut plain = Plain::new(alloc, schema.copy()?)?;
+    let mut draw = 7;
+    let mut taken = 0;
+    for _at in 0..DRAWS {
+        let one = try_fold(&rt, &schema, &mut tables, &mut plain, &mut draw)?;
+        taken = one.saturating_add(taken);
+    }
+    // many of both kinds
+    assert!(rt; taken > DRAWS / 8);
+    assert!(rt; taken < DRAWS - DRAWS / 8);
+    Ok(())
+}
+
+/// The next change drawn goes into both, with the same rows after it, or has the same misfit in both. How many
+/// were taken.
+fn try_fold(
+    rt: &(impl Abort + AllocGlobal),
+    schema: &Schema,
+    tables: &mut Tables,
+    plain: &mut Plain,
+    draw: &mut u64,
+) -> Result<u64, Fail> {
+    let alloc = rt.alloc();
+    let payload = events(alloc, 3, drawn_change(alloc, 1, draw)?.as_str())?;
+    let change = only_change(alloc, schema, payload.as_slice())?;
+    if !well_formed(tables.schema(), &change) {
+        return Err("a change of another schema".into());
+    }
+    let taken = match (tables.apply(&change), plain.fits(&change)) {
+        (Ok(()), Ok(())) => apply(plain, change)?,
+        (Err(PlainError::Misfit(why)), Err(misfit)) => {
+            assert_eq!(rt; why, misfit);
+            0
+        }
+        _ => return Err("another answer than that of plain tables".into()),
+    };
+    let rows = tables.rows(0)?;
     assert!(rt; rows.as_slice() == plain.table_rows(0));
     Ok(taken)
 }
