@@ -202,12 +202,14 @@ fn done_in(
 fn tells<S: Store>(store: &S, plain: &Plain, marks: Marks) -> Result<bool, AllocError> {
     let rows = store.rows(0)?;
     let [a, b, c, d] = marks.vsns;
-    Ok(rows.as_slice() == plain.table_rows(0)
-        && store.channels() == marks.channels
-        && store.last(0) == a
-        && store.last(1) == b
-        && store.last(2) == c
-        && store.last(3) == d)
+    Ok(
+        rows.as_slice() == plain.table_rows(0)
+            && store.channels() == marks.channels
+            && store.last(0) == a
+            && store.last(1) == b
+            && store.last(2) == c
+            && store.last(3) == d,
+    )
 }
 
 /// What a store tells, and how many channels the last epoch said.

@@ -159,7 +159,11 @@ fn try_fault_at_commit(rt: &(impl Abort + AllocGlobal), call: u64) -> Result<(),
     Ok(())
 }
 
-pub(crate) fn opened<D: Disk + Drop>(alloc: Global, schema: &Schema, disk: D) -> Result<JournalStore<D>, Fail>
+pub(crate) fn opened<D: Disk + Drop>(
+    alloc: Global,
+    schema: &Schema,
+    disk: D,
+) -> Result<JournalStore<D>, Fail>
     ensures schema { IfOk result (λ store. ⟦<JournalStore<D> as Store>⟧.schema store ≡ schema.now.tables) }
     ensures live { IfOk result (λ store. ⟦<JournalStore<D> as Store>⟧.is_live store ≡ true) }
     ensures stands { IfOk result (λ store. ⟦<JournalStore<D> as Store>⟧.stands store) }
