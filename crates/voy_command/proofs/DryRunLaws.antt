@@ -1,73 +1,52 @@
 -- What the parts of a dry run make of its answer and of its output.
-use Rattle.std.proofs.Common.{◌≡◌, ℕ, Bool, true, false, ◌||◌, List, [], Option, Some, None, refl, sym, ap, inl, inr, add-zero, append-nil, subst, arith, is_some, true≢false}
+use Rattle.std.proofs.Common.{◌≡◌, ℕ, Bool, true, false, ◌||◌, List, [], ◌++◌, Option, Some, None, refl, sym, ap, ◌∙◌, inl, inr, add-zero, subst, is_some, true≢false}
+use Rattle.voy_contents.specs.Tables.{lists_in, schema_in}
 use Rattle.voy_disk.specs.File.{File}
 use Rattle.voy_disk.specs.Files.{Files, bytes_now, length_of}
-use Rattle.voy_disk.specs.Written.{GotFront, grown}
-use Rattle.voy_command.specs.DryRunAnswered.{ComesFrom, IsPrinted, StopsDryRun, WithOutcome}
-use Rattle.voy_command.specs.DryRun.{Outcome, refusing, shown}
+use Rattle.voy_report.specs.Show.{tables_text}
+use Rattle.voy_command.specs.Commands.DryRun.{DryRunRefuses, DryRunWorks, dry_run_part}
+use Rattle.voy_command.specs.Commands.DryRun as own
+use Rattle.voy_command.specs.Commands.DryRun.Folding.{outcome_from}
+use Rattle.voy_command.specs.Commands.DryRun.Outcome.{WithOutcome, end_answer, import_line, is_refusal, refusing, shown}
+use Rattle.voy_command.specs.Commands.DryRun.Printing.{fold_text}
+use Rattle.voy_command.specs.Commands.DryRun.Stops.{StopsDryRun}
+use Rattle.voy_command.specs.Course.{Course, DiskFailed, PrintsNothing, files_before}
 use Rattle.voy_command.specs.Files.{file_bytes}
-use Rattle.voy_command.specs.Folding.{outcome_from}
-use Rattle.voy_command.specs.Stops.{is_refusal}
+use Rattle.voy_command.specs.Part as part
 use Rattle.voy_command.specs.declared.answer.Answer.{Answer}
 use Rattle.voy_command.specs.declared.answer.Answer.TheVariants.{Done, Waiting, Shown, NoCommand, NoReading, Fault, NoMemory, Damaged, Invalid, Refused, OutputFault, TooLong, NotBuilt}
-use Rattle.voy_command.specs.declared.fold.Fold.{Fold}
-use Rattle.voy_contents.specs.Tables.{lists_in, schema_in}
+use Rattle.voy_command.specs.declared.answer.FileName.TheVariants as file
+use Rattle.voy_command.specs.declared.answer.Unbuilt.TheVariants.{Command, Metadata}
+use Rattle.voy_command.specs.declared.answer.Which.TheVariants.{Recording, Export}
+use Rattle.voy_command.specs.declared.commands.dry_run.fold.Fold.{Fold}
 
-grown-nothing : (w : Option (List ℕ)) → w ≡ grown w []
-grown-nothing None = refl
-grown-nothing (Some bytes) = ap Some (sym (append-nil bytes))
+-- an outcome that is a refusal is one of the dry run's
+refusal_refuses : (e r : Option Files) (a : Answer) → is_refusal a ≡ true → WithOutcome e r (λ o. o ≡ refusing a) → DryRunRefuses e r a
+refusal_refuses e r Done h o = cc
+refusal_refuses e r Waiting h o = cc
+refusal_refuses e r Shown h o = cc
+refusal_refuses e r NoCommand h o = cc
+refusal_refuses e r (NoReading phrase) h o = cc
+refusal_refuses e r (Fault disk) h o = cc
+refusal_refuses e r NoMemory h o = cc
+refusal_refuses e r (Damaged disk file offset) h o = cc
+refusal_refuses e r (Invalid vsn) h o = own.invalid o
+refusal_refuses e r (Refused cause) h o = own.refused o
+refusal_refuses e r OutputFault h o = cc
+refusal_refuses e r (TooLong file.Schema line) h o = cc
+refusal_refuses e r (TooLong file.Segment line) h o = own.too_long o
+refusal_refuses e r (TooLong file.Journal line) h o = cc
+refusal_refuses e r (NotBuilt (Command phrase)) h o = cc
+refusal_refuses e r (NotBuilt Metadata) h o = own.metadata o
 
--- nothing is a prefix of any text
-pub front_nothing : (text : List ℕ) (w : Option (List ℕ)) → GotFront text w w
-front_nothing text w = record { count = 0; within = omega arith; is = grown-nothing w }
-
--- a refusal prints nothing
-refusal_printed : (e r : Option Files) (w : Option (List ℕ)) (a : Answer) → is_refusal a ≡ true → IsPrinted e r w w a
-refusal_printed e r w Done h = cc
-refusal_printed e r w Waiting h = cc
-refusal_printed e r w Shown h = refl
-refusal_printed e r w NoCommand h = refl
-refusal_printed e r w (NoReading phrase) h = refl
-refusal_printed e r w (Fault disk) h = refl
-refusal_printed e r w NoMemory h = cc
-refusal_printed e r w (Damaged side offset) h = refl
-refusal_printed e r w (Invalid vsn) h = refl
-refusal_printed e r w (Refused cause) h = refl
-refusal_printed e r w OutputFault h = cc
-refusal_printed e r w (TooLong line) h = refl
-refusal_printed e r w NotBuilt h = refl
-
--- a stop before the printing prints nothing
-pub stop_printed : (e r : Option Files) (export_rose recording_rose : Type 0) (w : Option (List ℕ)) (a : Answer)
-    → StopsDryRun e r export_rose recording_rose a → IsPrinted e r w w a
-stop_printed e r export_rose recording_rose w a (inl memory) = subst (IsPrinted e r w w) (sym memory) (λ x is_x. λ y is_y. front_nothing _ w)
-stop_printed e r export_rose recording_rose w a (inr (inl failed)) = subst (IsPrinted e r w w) (sym failed.0) refl
-stop_printed e r export_rose recording_rose w a (inr (inr (inl failed))) = subst (IsPrinted e r w w) (sym failed.0) refl
-stop_printed e r export_rose recording_rose w a (inr (inr (inr refused))) = refusal_printed e r w a refused.0
-
--- a refusal comes where the outcome is that refusal
-refusal_comes : (e r : Option Files) (export_rose recording_rose out_rose : Type 0) (a : Answer)
-    → is_refusal a ≡ true → WithOutcome e r (λ o. o ≡ refusing a) → ComesFrom e r export_rose recording_rose out_rose a
-refusal_comes e r er rr out Done h o = cc
-refusal_comes e r er rr out Waiting h o = cc
-refusal_comes e r er rr out Shown h o = cc
-refusal_comes e r er rr out NoCommand h o = cc
-refusal_comes e r er rr out (NoReading phrase) h o = cc
-refusal_comes e r er rr out (Fault disk) h o = cc
-refusal_comes e r er rr out NoMemory h o = tt
-refusal_comes e r er rr out (Damaged side offset) h o = cc
-refusal_comes e r er rr out (Invalid vsn) h o = λ x is_x. λ y is_y. ap (λ (z : Outcome). z.answer) (o x is_x y is_y)
-refusal_comes e r er rr out (Refused cause) h o = λ x is_x. λ y is_y. ap (λ (z : Outcome). z.answer) (o x is_x y is_y)
-refusal_comes e r er rr out OutputFault h o = cc
-refusal_comes e r er rr out (TooLong line) h o = λ x is_x. λ y is_y. ap (λ (z : Outcome). z.answer) (o x is_x y is_y)
-refusal_comes e r er rr out NotBuilt h o = λ x is_x. λ y is_y. ap (λ (z : Outcome). z.answer) (o x is_x y is_y)
-
-pub stop_comes : (e r : Option Files) (export_rose recording_rose out_rose : Type 0) (a : Answer)
-    → StopsDryRun e r export_rose recording_rose a → ComesFrom e r export_rose recording_rose out_rose a
-stop_comes e r er rr out a (inl memory) = subst (ComesFrom e r er rr out) (sym memory) tt
-stop_comes e r er rr out a (inr (inl failed)) = subst (ComesFrom e r er rr out) (sym failed.0) failed.1
-stop_comes e r er rr out a (inr (inr (inl failed))) = subst (ComesFrom e r er rr out) (sym failed.0) failed.1
-stop_comes e r er rr out a (inr (inr (inr refused))) = refusal_comes e r er rr out a refused.0 refused.1
+-- a stop before the printing is what the dry run answers
+pub stop_comes : {D K : Type 0} (c : Course D K) (a : Answer)
+    → StopsDryRun (files_before Export c) (files_before Recording c) (DiskFailed Export c) (DiskFailed Recording c) a
+    → PrintsNothing c → part.Comes (dry_run_part c) c a
+stop_comes c a (inl memory) same = subst (part.Comes (dry_run_part c) c) (sym memory) (part.no_memory same)
+stop_comes c a (inr (inl failed)) same = subst (part.Comes (dry_run_part c) c) (sym failed.0) (part.disk_failed own.export failed.1 same)
+stop_comes c a (inr (inr (inl failed))) same = subst (part.Comes (dry_run_part c) c) (sym failed.0) (part.disk_failed own.recording failed.1 same)
+stop_comes c a (inr (inr (inr refused))) same = part.refused (refusal_refuses _ _ a refused.0 refused.1) same
 
 or_false : (b : Bool) → (b || false) ≡ b
 or_false true = refl
@@ -76,6 +55,18 @@ or_false false = refl
 -- behind the last line the outcome is the fold's own
 pub ends : (f : Fold) → outcome_from f [] ≡ shown (schema_in f.tables) (lists_in f.tables) f.last f.ended
 ends f = rw (add-zero f.last, or_false f.ended) refl
+
+-- a fold that came to its end gives the answer of its end and its text
+pub fold_works : (e r : Option Files) (f : Fold) → WithOutcome e r (λ o. o ≡ outcome_from f []) → DryRunWorks e r (end_answer f.ended) (fold_text f)
+fold_works e r f is = by_end f.ended (λ x is_x. λ y is_y. is x is_x y is_y ∙ ends f) where
+  by_end : (ended : Bool) → WithOutcome e r (λ o. o ≡ shown (schema_in f.tables) (lists_in f.tables) f.last ended)
+      → DryRunWorks e r (end_answer ended) (tables_text (schema_in f.tables) (lists_in f.tables) ++ import_line ended f.last)
+  by_end true o = own.done o
+  by_end false o = own.waiting o
+
+pub fold_works_as : (e r : Option Files) (f : Fold) (ended : Bool) → f.ended ≡ ended → WithOutcome e r (λ o. o ≡ outcome_from f [])
+    → DryRunWorks e r (end_answer ended) (fold_text f)
+fold_works_as e r f ended is outcome = subst (λ b. DryRunWorks e r (end_answer b) (fold_text f)) is (fold_works e r f outcome)
 
 -- a file has a length exactly where it is there
 pub has_length : (found : Option File) → is_some (length_of found) ≡ is_some found

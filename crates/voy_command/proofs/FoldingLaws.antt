@@ -20,13 +20,12 @@ use Rattle.voy_tables.specs.Folds.{misfit_among}
 use Rattle.voy_tables.specs.Lists.{fold_lists, misfit_of}
 use Rattle.voy_tables.specs.declared.change.Change.{Change}
 use Rattle.voy_tables.specs.declared.change.Misfit.{Misfit}
-use Rattle.voy_command.specs.DryRun.{line_refusal, refusing, shown}
-use Rattle.voy_command.specs.Folding.{GoesOn, IsNext, IsNoFit, IsNoNext, Stops, Takes, event_misfit, fold_from, lines_from, lists_with, rest_from}
-use Rattle.voy_command.specs.Segment.{as_next, folded, queue_of, unless_misfit}
-use Rattle.voy_command.specs.Stops.{is_refusal}
+use Rattle.voy_command.specs.Commands.DryRun.Outcome.{is_refusal, line_refusal, refusing, shown}
+use Rattle.voy_command.specs.Commands.DryRun.Folding.{GoesOn, IsNext, IsNoFit, IsNoNext, Stops, Takes, event_misfit, fold_from, lines_from, lists_with, rest_from}
+use Rattle.voy_command.specs.Commands.DryRun.Segment.{as_next, folded, queue_of, unless_misfit}
 use Rattle.voy_command.specs.declared.answer.Answer.{Answer}
 use Rattle.voy_command.specs.declared.answer.Answer.TheVariants as answer
-use Rattle.voy_command.specs.declared.fold.Fold.{Fold}
+use Rattle.voy_command.specs.declared.commands.dry_run.fold.Fold.{Fold}
 use Rattle.voy_contents.specs.Tables.{lists_in, schema_in}
 
 Lists : Type 0

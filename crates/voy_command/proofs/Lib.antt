@@ -4,3 +4,5 @@ pub mod DryRunLaws
 pub mod ValidLaws
 pub mod TextLaws
 pub mod ShowLaws
+pub mod PartLaws
+pub mod WordLaws

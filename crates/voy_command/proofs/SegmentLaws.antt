@@ -17,14 +17,15 @@ use Rattle.std.specs.List.{list_any}
 use Rattle.voy_files.specs.LineLaws.{lines_of-some}
 use Rattle.voy_files.specs.Lines.{lines_of}
 use Rattle.voy_schema.specs.declared.table.Table.{Table}
-use Rattle.voy_command.specs.DryRun.{outcome_of_lines, refusing, shown, with_fold, with_rest}
-use Rattle.voy_command.specs.Folding.{Stops, fold_from, outcome_from, rest_from}
-use Rattle.voy_command.specs.Segment.{Queue, event_lines, folded, is_empty, queue_of, without_closing}
+use Rattle.voy_command.specs.Commands.DryRun.Outcome.{outcome_of_lines, refusing, shown, with_fold, with_rest}
+use Rattle.voy_command.specs.Commands.DryRun.Folding.{Stops, fold_from, outcome_from, rest_from}
+use Rattle.voy_command.specs.Commands.DryRun.Segment.{Queue, event_lines, folded, is_empty, queue_of, without_closing}
 use Rattle.voy_command.specs.Files.{file_bytes}
-use Rattle.voy_command.specs.Stops.{is_refusal}
+use Rattle.voy_command.specs.Commands.DryRun.Outcome.{is_refusal}
 use Rattle.voy_command.specs.declared.answer.Answer.{Answer}
 use Rattle.voy_command.specs.declared.answer.Answer.TheVariants as answer
-use Rattle.voy_command.specs.declared.fold.Fold.{Fold}
+use Rattle.voy_command.specs.declared.answer.FileName.TheVariants.{Segment}
+use Rattle.voy_command.specs.declared.commands.dry_run.fold.Fold.{Fold}
 use Rattle.voy_command.proofs.FoldingLaws.{lines_refused}
 use Rattle.voy_contents.specs.Tables.{lists_in, schema_in}
 
@@ -79,7 +80,7 @@ closing_is_short line long = by_test (bytes_eq line closing_line) refl where
 
 -- a line past the limit is refused, whatever stands behind it
 pub long_line : (f : Fold) (line : List ℕ) (rest : List (List ℕ)) → max_event_line_bytes < length line
-    → outcome_from f (without_closing (line ∷ rest)) ≡ refusing (answer.TooLong (f.last + 1))
+    → outcome_from f (without_closing (line ∷ rest)) ≡ refusing (answer.TooLong Segment (f.last + 1))
 long_line f line rest long =
     ap (outcome_from f) (stays rest)
     ∙ lines_refused (schema_in f.tables) (lists_in f.tables) f.last f.ended line why.TooLong (without_closing rest) (rw past refl)

@@ -1,24 +1,32 @@
 -- What the parts of `show` make of its answer, and that it can print one text alone.
 use Rattle.std.proofs.Common.{◌≡◌, ℕ, ◌⊎◌, inl, inr, List, Option, Some, None, Ok, Err, refl, sym, ap, ◌∙◌, subst}
-use Rattle.voy_disk.specs.ChangeLaws.{others_still}
 use Rattle.voy_disk.specs.Faults.{Rose}
 use Rattle.voy_disk.specs.Files.{Files, IfTold, bytes_now}
-use Rattle.voy_disk.specs.Written.{GotFront, grown}
+use Rattle.voy_disk.specs.declared.place.Place.{Place}
 use Rattle.voy_journal.specs.Grammar.{DamagedAt, HasPayloads, payloads_of}
 use Rattle.voy_report.specs.Show.{tables_text}
 use Rattle.voy_schema.specs.declared.table.Table.{Table}
 use Rattle.voy_store.specs.Stored.{IsStoreDamaged, history_in, store_name}
 use Rattle.voy_store.specs.declared.open_error.OpenError.{OpenError}
 use Rattle.voy_store.specs.declared.open_error.OpenError.TheVariants as opening
-use Rattle.voy_txn.specs.Contents.{contents_of}
-use Rattle.voy_command.specs.Files.{file_bytes, schema_name}
-use Rattle.voy_command.specs.Printing.{IsOutputStop}
-use Rattle.voy_command.specs.Recorded.{recorded_schema}
-use Rattle.voy_command.specs.Show.{HasStoreText, KeepsStore, MustShow, Shows, StoresHaveOneText, WithText, no_memory, no_schema, no_store, out_failed, recording_failed, store_failed, whole}
-use Rattle.voy_command.specs.Stops.{RefusesSchema, StopsSchema, StopsStore, open_stop}
-use Rattle.voy_command.specs.declared.answer.Answer.{Answer}
-use Rattle.voy_command.specs.declared.answer.Cause.{Cause}
 use Rattle.voy_tables.specs.declared.change.Side.{Side}
+use Rattle.voy_tables.specs.declared.change.Side.TheVariants.{Target, Source}
+use Rattle.voy_txn.specs.Contents.{contents_of}
+use Rattle.voy_command.specs.Commands.Show.{HasStoreText, KeepsStore, ShowCalls, ShowOwes, ShowRefuses, ShowWorks, StoresHaveOneText, has_text, no_schema, no_store, show_part, shown}
+use Rattle.voy_command.specs.Commands.Show as own
+use Rattle.voy_command.specs.Commands.Show.Stops.{StopsStore, open_stop}
+use Rattle.voy_command.specs.Course.{Course, DiskFailed, PrintsNothing, disk_at, files_after, files_before, store_at}
+use Rattle.voy_command.specs.Files.{file_bytes, schema_name}
+use Rattle.voy_command.specs.Part.{Comes, Does, disk_failed, no_memory, refused}
+use Rattle.voy_command.specs.Place.{StaysAlike}
+use Rattle.voy_command.specs.Recorded.{recorded_schema}
+use Rattle.voy_command.specs.Stops.{RefusesSchema, StopsSchema}
+use Rattle.voy_command.specs.declared.answer.Answer.{Answer}
+use Rattle.voy_command.specs.declared.answer.Answer.TheVariants.{Shown}
+use Rattle.voy_command.specs.declared.answer.Cause.{Cause}
+use Rattle.voy_command.specs.declared.answer.Which.{Which}
+use Rattle.voy_command.specs.declared.answer.Which.TheVariants.{Recording, Export, Store}
+use Rattle.voy_command.proofs.PartLaws.{completes, same_disk_keeps, stays_alike}
 
 -- ---- one text alone
 
@@ -66,83 +74,91 @@ stores_have_one_text read broken = record {
 pub refuses_schema : (a : Answer) (failed : Type 0) (why weaker : Cause → Type 0) → ((cause : Cause) → why cause → weaker cause)
     → RefusesSchema why a → failed ⊎ RefusesSchema weaker a
 refuses_schema a failed why weaker weaken (inl memory) = inr (inl memory)
-refuses_schema a failed why weaker weaken (inr refused) = inr (inr (refused.0, refused.1, weaken refused.0 refused.2))
+refuses_schema a failed why weaker weaken (inr bad) = inr (inr (bad.0, bad.1, weaken bad.0 bad.2))
 
 -- a store that was not opened stops `show`
-pub opening_stops : (side : Side) (given schema : List Table) (store : Option Files) (before refused after : ℕ) (why : OpenError)
-    → given ≡ schema → refused ≡ after
+pub opening_stops : (side : Side) (given schema : List Table) (store : Option Files) (before between after : ℕ) (why : OpenError)
+    → given ≡ schema → between ≡ after
     → ((offset : ℕ) → why ≡ opening.Damaged offset → IfTold store (λ fs. IsStoreDamaged given (bytes_now (fs store_name)) offset))
-    → (why ≡ opening.Fault → Rose before refused) → StopsStore side schema store (Rose before after) (open_stop side why)
-opening_stops side given schema store before refused after opening.Fault same ends damaged fault =
+    → (why ≡ opening.Fault → Rose before between) → StopsStore side schema store (Rose before after) (open_stop side why)
+opening_stops side given schema store before between after opening.Fault same ends damaged fault =
     inr (inl (refl, subst (Rose before) ends (fault refl)))
-opening_stops side given schema store before refused after (opening.Damaged offset) same ends damaged fault =
+opening_stops side given schema store before between after (opening.Damaged offset) same ends damaged fault =
     inr (inr (offset, refl, λ fs is. subst (λ tables. IsStoreDamaged tables (bytes_now (fs store_name)) offset) same (damaged offset refl fs is)))
-opening_stops side given schema store before refused after opening.NoMemory same ends damaged fault = inl refl
-
--- ---- the disk of the store
-
--- files that did not change
-pub keeps_store : (files : Option Files) → KeepsStore files files
-keeps_store files = record {
-  images = record { from = λ j now. record { before = j; was = now; by = record { payloads = refl; others = λ other not. refl } } };
-  others = others_still store_name files;
-  told = record { has = λ i was. (i, was) };
-}
+opening_stops side given schema store before between after opening.NoMemory same ends damaged fault = inl refl
 
 -- ---- the answer
 
 -- a schema that was not read is what `show` answers
-pub schema_stop_shows : (side : Side) (recording store : Option Files) (recording_rose store_rose out_rose : Type 0) (out : Option (List ℕ)) (a : Answer)
-    → StopsSchema recording recording_rose a → Shows side recording store recording_rose store_rose out_rose out out a
-schema_stop_shows side recording store rr sr or out a (inl failed) =
-    subst (Shows side recording store rr sr or out out) (sym failed.0) (recording_failed failed.1 refl)
-schema_stop_shows side recording store rr sr or out a (inr (inl memory)) =
-    subst (Shows side recording store rr sr or out out) (sym memory) (no_memory (inl refl))
-schema_stop_shows side recording store rr sr or out a (inr (inr refused)) =
-    subst (Shows side recording store rr sr or out out) (sym refused.1) (no_schema refused.2 refl)
+pub schema_stop_comes : {D K : Type 0} (side : Side) (c : Course D K) (a : Answer)
+    → StopsSchema (files_before Recording c) (DiskFailed Recording c) a → PrintsNothing c → Comes (show_part side c) c a
+schema_stop_comes side c a (inl failed) same = subst (Comes (show_part side c) c) (sym failed.0) (disk_failed own.recording failed.1 same)
+schema_stop_comes side c a (inr (inl memory)) same = subst (Comes (show_part side c) c) (sym memory) (no_memory same)
+schema_stop_comes side c a (inr (inr bad)) same = subst (Comes (show_part side c) c) (sym bad.1) (refused (no_schema bad.2) same)
 
 -- a store that was not read is what `show` answers
-pub store_stop_shows : (side : Side) (schema : List Table) (recording store : Option Files) (recording_rose store_rose out_rose : Type 0) (out : Option (List ℕ)) (a : Answer)
-    → IfTold recording (λ r. recorded_schema (file_bytes (r schema_name)) ≡ Ok schema) → StopsStore side schema store store_rose a
-    → Shows side recording store recording_rose store_rose out_rose out out a
-store_stop_shows side schema recording store rr sr or out a recorded (inl memory) =
-    subst (Shows side recording store rr sr or out out) (sym memory) (no_memory (inl refl))
-store_stop_shows side schema recording store rr sr or out a recorded (inr (inl failed)) =
-    subst (Shows side recording store rr sr or out out) (sym failed.0) (store_failed failed.1 refl)
-store_stop_shows side schema recording store rr sr or out a recorded (inr (inr broken)) =
-    subst (Shows side recording store rr sr or out out) (sym broken.1)
-    (no_store (λ r is_r. λ s is_s. record { schema = schema; recorded = recorded r is_r; damaged = broken.2 s is_s }) refl)
+pub store_stop_comes : {D K : Type 0} (side : Side) (c : Course D K) (schema : List Table) (a : Answer)
+    → IfTold (files_before Recording c) (λ r. recorded_schema (file_bytes (r schema_name)) ≡ Ok schema)
+    → StopsStore side schema (files_before (Store side) c) (DiskFailed (Store side) c) a → PrintsNothing c → Comes (show_part side c) c a
+store_stop_comes side c schema a recorded (inl memory) same = subst (Comes (show_part side c) c) (sym memory) (no_memory same)
+store_stop_comes side c schema a recorded (inr (inl failed)) same = subst (Comes (show_part side c) c) (sym failed.0) (disk_failed own.store failed.1 same)
+store_stop_comes side c schema a recorded (inr (inr broken)) same =
+    subst (Comes (show_part side c) c) (sym broken.1)
+    (refused (no_store (λ r is_r. λ s is_s. record { schema = schema; recorded = recorded r is_r; damaged = broken.2 s is_s })) same)
 
 -- the text that was read is that of the store
-pub with_text : (schema : List Table) (recording store : Option Files) (text : List ℕ) (P : List ℕ → Type 0)
+pub text_works : (recording store : Option Files) (schema : List Table) (text : List ℕ)
     → IfTold recording (λ r. recorded_schema (file_bytes (r schema_name)) ≡ Ok schema)
-    → IfTold store (λ s. HasStoreText schema (bytes_now (s store_name)) text) → P text → WithText recording store P
-with_text schema recording store text P recorded has holds =
-    λ r is_r. λ s is_s. (text, record { schema = schema; recorded = recorded r is_r; has = has s is_s }, holds)
+    → IfTold store (λ s. HasStoreText schema (bytes_now (s store_name)) text) → ShowWorks recording store Shown text
+text_works recording store schema text recorded has =
+    shown (λ r is_r. λ s is_s. record { schema = schema; recorded = recorded r is_r; has = has s is_s })
 
--- an output that stopped is what `show` answers
-pub output_stop_shows : (side : Side) (recording store : Option Files) (recording_rose store_rose out_rose : Type 0) (old new : Option (List ℕ)) (a : Answer)
-    → IsOutputStop out_rose a → WithText recording store (λ text. GotFront text old new) → Shows side recording store recording_rose store_rose out_rose old new a
-output_stop_shows side recording store rr sr or old new a (inl memory) front =
-    subst (Shows side recording store rr sr or old new) (sym memory) (no_memory (inr front))
-output_stop_shows side recording store rr sr or old new a (inr failed) front =
-    subst (Shows side recording store rr sr or old new) (sym failed.0) (out_failed failed.1 front)
+-- ---- what is owed
 
--- the causes of an answer leave only those that are owed
-pub must_show : StoresHaveOneText → (side : Side) (recording store : Option Files) (recording_rose store_rose out_rose : Type 0) (old new : Option (List ℕ)) (a : Answer)
-    → Shows side recording store recording_rose store_rose out_rose old new a → MustShow recording store recording_rose store_rose out_rose old new a
-must_show law side recording store rr sr or old new a (whole shown) = λ r is_r. λ s is_s. λ text has no_recording no_store no_out.
-    let found = shown r is_r s is_s in
-    inr (refl, found.2 ∙ ap (λ t. grown old t) (law.one r s text found.0 has found.1))
-must_show law side recording store rr sr or old new a (no_schema {cause} refused same) = λ r is_r. λ s is_s. λ text has no_recording no_store no_out.
-    let never : Ok has.schema ≡ Err cause = sym has.recorded ∙ refused r is_r in cc
-must_show law side recording store rr sr or old new a (no_store damaged same) = λ r is_r. λ s is_s. λ text has no_recording no_store no_out.
-    absurd (law.none r s text _ has (damaged r is_r s is_s))
-must_show law side recording store rr sr or old new a (recording_failed rose same) = λ r is_r. λ s is_s. λ text has no_recording no_store no_out.
-    absurd (no_recording rose)
-must_show law side recording store rr sr or old new a (store_failed rose same) = λ r is_r. λ s is_s. λ text has no_recording no_store no_out.
-    absurd (no_store rose)
-must_show law side recording store rr sr or old new a (out_failed rose front) = λ r is_r. λ s is_s. λ text has no_recording no_store no_out.
-    absurd (no_out rose)
-must_show law side recording store rr sr or old new a (no_memory front) = λ r is_r. λ s is_s. λ text has no_recording no_store no_out.
-    inl refl
+owed_is_shown : StoresHaveOneText → (recording store : Option Files) (a b : Answer) (text other : List ℕ)
+    → ShowOwes recording store a text → ShowWorks recording store b other → (b ≡ a) × (other ≡ text)
+owed_is_shown law recording store a b text other (has_text {r} {s} is_r is_s has) (shown works) = (refl, law.one r s text other has (works r is_r s is_s))
+
+owed_is_no_refusal : StoresHaveOneText → (side : Side) (recording store : Option Files) (a b : Answer) (text : List ℕ)
+    → ShowOwes recording store a text → ShowRefuses side recording store b → ⊥
+owed_is_no_refusal law side recording store a b text (has_text {r} {s} is_r is_s has) (no_schema {cause} bad) =
+    let never : Ok has.schema ≡ Err cause = sym has.recorded ∙ bad r is_r in cc
+owed_is_no_refusal law side recording store a b text (has_text {r} {s} is_r is_s has) (no_store {offset} damaged) =
+    law.none r s text offset has (damaged r is_r s is_s)
+
+-- ---- the whole
+
+-- a disk that `show` does not call is the same value
+closed : {D : Type 0} (side : Side) (old new : Place D) → new.export ≡ old.export
+    → store_at side new.source new.target ≡ store_at side old.source old.target
+    → (disk : Which) → ¬ ShowCalls side disk → disk_at disk new ≡ disk_at disk old
+closed side old new export other Recording not = absurd (not own.recording)
+closed side old new export other Export not = export
+closed Target old new export other (Store Target) not = absurd (not own.store)
+closed Target old new export other (Store Source) not = other
+closed Source old new export other (Store Target) not = other
+closed Source old new export other (Store Source) not = absurd (not own.store)
+
+moves : {D : Type 0} (files : D → Option Files) (side : Side) (old new : Place D)
+    → files new.recording ≡ files old.recording → new.export ≡ old.export
+    → KeepsStore (files (store_at side old.target old.source)) (files (store_at side new.target new.source))
+    → store_at side new.source new.target ≡ store_at side old.source old.target → StaysAlike files old new
+moves files Target old new recording export store other =
+    stays_alike files old new recording (ap files export) store.images (same_disk_keeps files _ _ other)
+moves files Source old new recording export store other =
+    stays_alike files old new recording (ap files export) (same_disk_keeps files _ _ other) store.images
+
+-- an answer that has its cause, over a store that keeps its payloads
+pub does_show : {D K : Type 0} → StoresHaveOneText → (side : Side) (c : Course D K) (a : Answer) → Comes (show_part side c) c a
+    → c.files c.new.place.recording ≡ c.files c.old.place.recording → c.new.place.export ≡ c.old.place.export
+    → KeepsStore (files_before (Store side) c) (files_after (Store side) c)
+    → store_at side c.new.place.source c.new.place.target ≡ store_at side c.old.place.source c.old.place.target
+    → Does (show_part side c) c a
+does_show law side c a comes recording export store other = record {
+  comes = comes;
+  complete = completes (show_part side c) c (owed_is_shown law _ _) (owed_is_no_refusal law side _ _) a comes;
+  recording = recording;
+  closed = closed side c.old.place c.new.place export other;
+  leaves = store;
+  moves = moves c.files side c.old.place c.new.place recording export store other;
+}

@@ -1,5 +1,5 @@
 -- A valid stream is folded to its end, and no other one is.
-use Rattle.std.proofs.Common.{◌≡◌, ◌↔◌, ◌⊎◌, ℕ, ◌+◌, Bool, true, false, List, [], ◌∷◌, Option, Some, None, Result, Ok, Err, is_some, refl, sym, ap, ◌∙◌, inl, inr, subst}
+use Rattle.std.proofs.Common.{◌≡◌, ◌↔◌, ℕ, ◌+◌, Bool, true, false, List, [], ◌∷◌, Option, Some, None, Result, Ok, Err, is_some, refl, sym, ap, ◌∙◌, subst}
 use Rattle.std.specs.Prelude.{if◌then◌else◌, is_ok, map, slice_get}
 use Rattle.std.specs.List.{cons_option, list_any}
 use Rattle.voy_disk.specs.Files.{Files}
@@ -22,16 +22,23 @@ use Rattle.voy_tables.specs.Standing.{are_tables}
 use Rattle.voy_tables.specs.Tables.{FitInTurn, IsClean, do_change, no_rows, tuple_in}
 use Rattle.voy_tables.specs.declared.change.Change.{Change}
 use Rattle.voy_tables.specs.declared.change.Misfit.{Misfit}
-use Rattle.voy_command.specs.DryRunAnswered.{ComesFrom}
-use Rattle.voy_command.specs.DryRun.{end_answer, outcome_of_lines, with_fold, with_rest}
-use Rattle.voy_command.specs.Files.{dry_run_outcome, file_bytes, schema_name, segment_name}
-use Rattle.voy_command.specs.Folding.{event_misfit, lists_with}
-use Rattle.voy_command.specs.Segment.{Queue, add_event, as_next, event_lines, folded, queue_of}
-use Rattle.voy_command.specs.Stops.{is_refusal}
-use Rattle.voy_command.specs.Valid.{FoldsWhereValid, IsComplete, IsValidInput, ValidStreamsFold, changes_of, reaches_cutover, segment_queue}
+use Rattle.voy_command.specs.Commands.DryRun.{DryRunCalls, DryRunOwes, DryRunRefuses, DryRunWorks, dry_run_part}
+use Rattle.voy_command.specs.Commands.DryRun as own
+use Rattle.voy_command.specs.Course.{Course, disk_at}
+use Rattle.voy_command.specs.Part.{Comes, Does}
+use Rattle.voy_command.specs.Commands.DryRun.Outcome.{Outcome, dry_run_outcome, end_answer, is_refusal, outcome_of_lines, refusing, with_fold, with_rest}
+use Rattle.voy_command.specs.Files.{file_bytes, schema_name, segment_name}
+use Rattle.voy_command.specs.Commands.DryRun.Folding.{event_misfit, lists_with}
+use Rattle.voy_command.specs.Commands.DryRun.Segment.{Queue, add_event, as_next, event_lines, folded, queue_of}
+use Rattle.voy_command.specs.Commands.DryRun.Valid.{FoldsWhereValid, IsValidInput, ValidStreamsFold, changes_of, reaches_cutover, segment_queue}
 use Rattle.voy_command.specs.declared.answer.Answer.{Answer}
-use Rattle.voy_command.specs.declared.answer.Answer.TheVariants.{Done, Waiting, Shown, NoCommand, NoReading, Fault, NoMemory, Damaged, Invalid, Refused, OutputFault, TooLong, NotBuilt}
-use Rattle.voy_command.specs.declared.answer.Which.TheVariants.{Recording, Export, Target, Source}
+use Rattle.voy_command.specs.declared.answer.Answer.TheVariants.{Invalid, Refused, TooLong, NotBuilt}
+use Rattle.voy_command.specs.declared.answer.FileName.TheVariants.{Segment}
+use Rattle.voy_command.specs.declared.answer.Unbuilt.TheVariants.{Metadata}
+use Rattle.voy_command.specs.declared.answer.Which.{Which}
+use Rattle.voy_command.specs.declared.answer.Which.TheVariants.{Recording, Export, Store}
+use Rattle.voy_tables.specs.declared.change.Side.TheVariants.{Target, Source}
+use Rattle.voy_command.proofs.PartLaws.{completes, same_disk_keeps, stays_alike}
 use Rattle.voy_command.proofs.FoldingLaws.{chosen, folded_more, is_refusal-line_refusal}
 
 -- ---- no rows
@@ -161,27 +168,50 @@ outcome_ends : ValidStreamsFold → (export recording : Files) (schema : List Ta
 outcome_ends law export recording schema input =
     rw input.no_metadata ((law (file_bytes (recording schema_name)) schema (file_bytes (export segment_name)) input.readable).ends input.valid)
 
--- the causes of an answer leave only those that are owed
-pub completes : ValidStreamsFold → (export recording : Option Files) (export_rose recording_rose out_rose : Type 0) (a : Answer)
-    → ComesFrom export recording export_rose recording_rose out_rose a → IsComplete export recording export_rose recording_rose out_rose a
-completes law export recording er rr or a comes = λ e is_e. λ r is_r. λ schema input no_export no_recording no_out.
-    by_answer e is_e r is_r no_export no_recording no_out (outcome_ends law e r schema input) a comes
+-- what is owed is the dry run's one work
+pub owed_is_done : ValidStreamsFold → (export recording : Option Files) (a b : Answer) (text other : List ℕ)
+    → DryRunOwes export recording a text → DryRunWorks export recording b other → (b ≡ a) × (other ≡ text)
+owed_is_done law export recording a b text other (own.valid_stream {e} {r} {schema} is_e is_r input) (own.done outcome) =
+    let o = outcome e is_e r is_r in
+    (sym (ap (λ (z : Outcome). z.answer) o) ∙ outcome_ends law e r schema input, sym (ap (λ (z : Outcome). z.text) o))
+owed_is_done law export recording a b text other (own.valid_stream {e} {r} {schema} is_e is_r input) (own.waiting outcome) =
+    let o = outcome e is_e r is_r in
+    (sym (ap (λ (z : Outcome). z.answer) o) ∙ outcome_ends law e r schema input, sym (ap (λ (z : Outcome). z.text) o))
+
+-- and no refusal
+pub owed_is_no_refusal : ValidStreamsFold → (export recording : Option Files) (a b : Answer) (text : List ℕ)
+    → DryRunOwes export recording a text → DryRunRefuses export recording b → ⊥
+owed_is_no_refusal law export recording a b text (own.valid_stream {e} {r} {schema} is_e is_r input) refuses = by_refusal b refuses where
+  never : (refusal : Answer) (ended : Bool) → is_refusal refusal ≡ true → refusal ≡ end_answer ended → ⊥
+  never refusal true is same = let false_is_true : false ≡ true = sym (ap is_refusal same) ∙ is in cc
+  never refusal false is same = let false_is_true : false ≡ true = sym (ap is_refusal same) ∙ is in cc
+
+  ends_so : (refusal : Answer) → dry_run_outcome e r ≡ refusing refusal → refusal ≡ end_answer (reaches_cutover schema (file_bytes (e segment_name)))
+  ends_so refusal o = sym (ap (λ (z : Outcome). z.answer) o) ∙ outcome_ends law e r schema input
+
+  by_refusal : (b : Answer) → DryRunRefuses export recording b → ⊥
+  by_refusal b (own.metadata outcome) = never (NotBuilt Metadata) _ refl (ends_so (NotBuilt Metadata) (outcome e is_e r is_r))
+  by_refusal b (own.refused {cause} outcome) = never (Refused cause) _ refl (ends_so (Refused cause) (outcome e is_e r is_r))
+  by_refusal b (own.invalid {vsn} outcome) = never (Invalid vsn) _ refl (ends_so (Invalid vsn) (outcome e is_e r is_r))
+  by_refusal b (own.too_long {line} outcome) = never (TooLong Segment line) _ refl (ends_so (TooLong Segment line) (outcome e is_e r is_r))
+
+-- ---- the whole dry run
+
+-- an answer that has its cause, over disks with the same files as before
+pub does_dry_run : {D K : Type 0} → ValidStreamsFold → (c : Course D K) (a : Answer) → Comes (dry_run_part c) c a
+    → c.files c.new.place.recording ≡ c.files c.old.place.recording → c.files c.new.place.export ≡ c.files c.old.place.export
+    → c.new.place.target ≡ c.old.place.target → c.new.place.source ≡ c.old.place.source → Does (dry_run_part c) c a
+does_dry_run law c a comes recording export target source = record {
+  comes = comes;
+  complete = completes (dry_run_part c) c (owed_is_done law _ _) (owed_is_no_refusal law _ _) a comes;
+  recording = recording;
+  closed = closed;
+  leaves = export;
+  moves = stays_alike c.files c.old.place c.new.place recording export (same_disk_keeps c.files _ _ target) (same_disk_keeps c.files _ _ source);
+}
   where
-    by_answer : {owed : Answer} (e : Files) → export ≡ Some e → (r : Files) → recording ≡ Some r → ¬ er → ¬ rr → ¬ or
-        → (dry_run_outcome e r).answer ≡ owed → (a : Answer) → ComesFrom export recording er rr or a → (a ≡ NoMemory) ⊎ (a ≡ owed)
-    by_answer e is_e r is_r no_export no_recording no_out is Done comes = inr (sym (comes e is_e r is_r) ∙ is)
-    by_answer e is_e r is_r no_export no_recording no_out is Waiting comes = inr (sym (comes e is_e r is_r) ∙ is)
-    by_answer e is_e r is_r no_export no_recording no_out is Shown comes = absurd comes
-    by_answer e is_e r is_r no_export no_recording no_out is NoCommand comes = absurd comes
-    by_answer e is_e r is_r no_export no_recording no_out is (NoReading phrase) comes = absurd comes
-    by_answer e is_e r is_r no_export no_recording no_out is (Fault Recording) comes = absurd (no_recording comes)
-    by_answer e is_e r is_r no_export no_recording no_out is (Fault Export) comes = absurd (no_export comes)
-    by_answer e is_e r is_r no_export no_recording no_out is (Fault Target) comes = absurd comes
-    by_answer e is_e r is_r no_export no_recording no_out is (Fault Source) comes = absurd comes
-    by_answer e is_e r is_r no_export no_recording no_out is NoMemory comes = inl refl
-    by_answer e is_e r is_r no_export no_recording no_out is (Damaged side offset) comes = absurd comes
-    by_answer e is_e r is_r no_export no_recording no_out is (Invalid vsn) comes = inr (sym (comes e is_e r is_r) ∙ is)
-    by_answer e is_e r is_r no_export no_recording no_out is (Refused cause) comes = inr (sym (comes e is_e r is_r) ∙ is)
-    by_answer e is_e r is_r no_export no_recording no_out is OutputFault comes = absurd (no_out comes.0)
-    by_answer e is_e r is_r no_export no_recording no_out is (TooLong line) comes = inr (sym (comes e is_e r is_r) ∙ is)
-    by_answer e is_e r is_r no_export no_recording no_out is NotBuilt comes = inr (sym (comes e is_e r is_r) ∙ is)
+    closed : (disk : Which) → ¬ DryRunCalls disk → disk_at disk c.new.place ≡ disk_at disk c.old.place
+    closed Recording not = absurd (not own.recording)
+    closed Export not = absurd (not own.export)
+    closed (Store Target) not = target
+    closed (Store Source) not = source

@@ -1,39 +1,42 @@
--- What stands behind each answer of a command: when it comes, what was printed, and what changed.
-use Rattle.std.specs.Prelude.{◌≡◌, ℕ, List, Option}
-use Rattle.voy_disk.specs.Files.{Files}
+-- What is promised of the whole command: its status, its text on `err`, and what was done.
+use Rattle.std.specs.Prelude.{◌≡◌, ℕ, List, Ok, Err}
 use Rattle.voy_disk.specs.Written.{GotFront}
-use Rattle.voy_disk.specs.declared.place.Place.{Place}
+use Rattle.voy_tables.specs.declared.change.Side.{Side}
+use Rattle.voy_words.specs.Reading.{reading}
+use Rattle.voy_words.specs.Table.{number_of}
+use Rattle.voy_words.specs.declared.asked.Command.{Command}
+use Rattle.voy_words.specs.declared.error.Usage.TheVariants as usage
+use Rattle.voy_words.specs.declared.phrase.Phrase.{Phrase}
 use Rattle.voy_command.specs.Answer.{status_of, text_on_err}
-use Rattle.voy_command.specs.DryRunAnswered.{IsDryRun}
-use Rattle.voy_command.specs.Show.{IsShow}
-use Rattle.voy_command.specs.Words.{asked_by}
+use Rattle.voy_command.specs.Commands.DryRun.{dry_run_part}
+use Rattle.voy_command.specs.Commands.Show.{show_part}
+use Rattle.voy_command.specs.Course.{Course, IsIdle}
+use Rattle.voy_command.specs.Part.{Does}
+use Rattle.voy_command.specs.Words.{task_of}
 use Rattle.voy_command.specs.declared.answer.Answer.{Answer}
-use Rattle.voy_command.specs.declared.answer.Answer.TheVariants.{NoCommand, NoReading}
-use Rattle.voy_command.specs.declared.words.Asked.{Asked}
-use Rattle.voy_command.specs.declared.words.Asked.TheVariants as asked
+use Rattle.voy_command.specs.declared.answer.Answer.TheVariants.{NoCommand, NoMemory, NoReading, NotBuilt}
+use Rattle.voy_command.specs.declared.answer.Unbuilt.TheVariants as unbuilt
+use Rattle.voy_command.specs.declared.commands.Task.TheVariants as task
 
--- a place with the two sinks, before or after a command
-pub record State (D K : Type 0) : Type 0 where
-  pub place : Place D
-  pub out : K
-  pub err : K
+-- words without a reading are told so, with their phrase where they begin with one; or memory was not found for them
+pub data IsUnread (words : List (List ℕ)) : Answer → Type 0 where
+  no_command : reading words ≡ Err usage.Phrase → IsUnread words NoCommand
+  no_reading : {phrase : Phrase} → reading words ≡ Err (usage.Rest (number_of phrase)) → IsUnread words (NoReading phrase)
+  no_memory : IsUnread words NoMemory
 
--- nothing was done
-pub record IsIdle {D K : Type 0} (old new : Place D) (old_out new_out : K) : Type 0 where
-  pub place : new ≡ old
-  pub out : new_out ≡ old_out
-
--- what was done is what was asked for; for words without a reading nothing was
-abbrev pub IsDone : {D K : Type 0} → (D → Option Files) → (D → ℕ) → (K → Option (List ℕ)) → (K → ℕ) → Asked → Place D → Place D → K → K → Answer → Type 0
-IsDone files faults written failures asked.NoCommand old new old_out new_out a = IsIdle old new old_out new_out × (a ≡ NoCommand)
-IsDone files faults written failures (asked.NoReading phrase) old new old_out new_out a = IsIdle old new old_out new_out × (a ≡ NoReading phrase)
-IsDone files faults written failures asked.DryRun old new old_out new_out a = IsDryRun files faults written failures old new old_out new_out a
-IsDone files faults written failures (asked.Show side) old new old_out new_out a = IsShow files faults written failures side old new old_out new_out a
+-- what was done is what the words ask for; for words that were not read, and for a phrase that is not built, nothing was
+pub data IsDone {D K : Type 0} (words : List (List ℕ)) (c : Course D K) : Answer → Type 0 where
+  unread : {a : Answer} → IsUnread words a → IsIdle c → IsDone words c a
+  not_built : {command : Command} {phrase : Phrase} → reading words ≡ Ok command → task_of command ≡ task.Unbuilt phrase → IsIdle c
+      → IsDone words c (NotBuilt (unbuilt.Command phrase))
+  dry_run : {command : Command} {a : Answer} → reading words ≡ Ok command → task_of command ≡ task.DryRun → Does (dry_run_part c) c a
+      → IsDone words c a
+  show : {command : Command} {side : Side} {a : Answer} → reading words ≡ Ok command → task_of command ≡ task.Show side → Does (show_part side c) c a
+      → IsDone words c a
 
 -- one command: its status and its text on `err` are those of an answer that stands for what was done
-pub record IsAnswered {D K : Type 0} (files : D → Option Files) (faults : D → ℕ) (written : K → Option (List ℕ)) (failures : K → ℕ)
-    (words : List (List ℕ)) (code : ℕ) (old new : State D K) : Type 0 where
+pub record IsAnswered {D K : Type 0} (words : List (List ℕ)) (code : ℕ) (c : Course D K) (old_err new_err : K) : Type 0 where
   pub answer : Answer
   pub status : code ≡ status_of answer
-  pub told : GotFront (text_on_err answer) (written old.err) (written new.err)
-  pub done : IsDone files faults written failures (asked_by words) old.place new.place old.out new.out answer
+  pub told : GotFront (text_on_err answer) (c.written old_err) (c.written new_err)
+  pub done : IsDone words c answer

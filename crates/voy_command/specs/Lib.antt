@@ -1,13 +1,10 @@
 pub mod Words
 pub mod Answer
+pub mod Course
+pub mod Place
+pub mod Part
 pub mod Recorded
-pub mod Segment
-pub mod DryRun
-pub mod Folding
 pub mod Files
 pub mod Stops
-pub mod Valid
-pub mod Printing
-pub mod DryRunAnswered
-pub mod Show
+pub mod Commands
 pub mod Answered

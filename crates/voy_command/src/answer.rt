@@ -1,36 +1,27 @@
-ghost use Rattle.std.specs.Prelude.{◌≡◌, ◌++◌, codes, decimal, OnOk};
+ghost use Rattle.std.specs.Prelude.{◌≡◌, ◌<◌, ◌++◌, codes, decimal, OnOk};
 ghost use Rattle.voy_disk.specs.Written.{GotFront};
-ghost use Rattle.voy_command.specs.Answer.{cause_text, disk_name, disk_of, phrase_text, status_of, text_on_err};
+ghost use Rattle.voy_words.specs.Table.{number_of};
+ghost use Rattle.voy_command.specs.Answer.{cause_file, cause_line, cause_why, disk_name, file_name, phrase_text, status_of, text_on_err, unbuilt_text};
 ghost use Rattle.voy_command.specs.Stops.{disk_stop};
 
-use crate::words::Phrase;
 use itoa::Buffer;
 use std::alloc::{AllocError, Global};
 use voy_disk::{DiskError, Sink, write_all};
 use voy_event::LineWhy;
 use voy_schema::{Bytes, SchemaWhy};
 use voy_tables::Side;
+use voy_words::Phrase;
 
 /// A disk of the place.
 #[derive(Clone, Copy, Debug, PartialEq, Eq)]
 pub enum Which {
     Recording,
     Export,
-    Target,
-    Source,
+    /// The disk of this side's store.
+    Store(Side),
 }
 
 impl Which {
-    /// The disk of this side's store.
-    pub fn of_store(side: Side) -> Which
-        ensures { result ≡ disk_of side }
-    {
-        match side {
-            Side::Target => Which::Target,
-            Side::Source => Which::Source,
-        }
-    }
-
     /// The name of its folder.
     #[tactic(auto, unfolding(crate::specs::Answer::disk_name))]
     fn name(self) -> &'static str
@@ -39,22 +30,32 @@ impl Which {
         match self {
             Which::Recording => "recording",
             Which::Export => "export",
-            Which::Target => "target",
-            Which::Source => "source",
+            Which::Store(Side::Target) => "target",
+            Which::Store(Side::Source) => "source",
         }
     }
 }
 
-impl Phrase {
-    /// Its words.
-    #[tactic(auto, unfolding(crate::specs::Answer::phrase_text))]
+/// A file that an answer names.
+#[derive(Clone, Copy, Debug, PartialEq, Eq)]
+pub enum FileName {
+    /// The recording's schema.
+    Schema,
+    /// The first segment of the export.
+    Segment,
+    /// The journal of a store.
+    Journal,
+}
+
+impl FileName {
+    #[tactic(auto, unfolding(crate::specs::Answer::file_name))]
     fn text(self) -> &'static str
-        ensures { result.now ≡ phrase_text self }
+        ensures { result.now ≡ file_name self }
     {
         match self {
-            Phrase::ImportToTarget => "import data to target",
-            Phrase::Show(Side::Target) => "show target",
-            Phrase::Show(Side::Source) => "show source",
+            FileName::Schema => "schema.json",
+            FileName::Segment => "segment.0.ndjson",
+            FileName::Journal => "store.journal",
         }
     }
 }
@@ -68,6 +69,27 @@ pub enum Cause {
     Schema { table: u32, why: SchemaWhy },
     /// A line of the segment, from 1.
     Segment { line: u64, why: LineWhy },
+}
+
+/// What is not built yet.
+#[derive(Clone, Copy, Debug, PartialEq, Eq)]
+pub enum Unbuilt {
+    /// The command of this phrase.
+    Command(Phrase),
+    /// The reading of metadata, which a dry run needs where they are there.
+    Metadata,
+}
+
+impl Unbuilt {
+    #[tactic(auto, unfolding(crate::specs::Answer::unbuilt_text))]
+    fn text(self) -> &'static str
+        ensures { result.now ≡ unbuilt_text self }
+    {
+        match self {
+            Unbuilt::Command(phrase) => phrase_text(phrase),
+            Unbuilt::Metadata => "meta.journal",
+        }
+    }
 }
 
 /// What a command answers.
@@ -86,18 +108,27 @@ pub enum Answer {
     /// This disk failed: its count of faults rose.
     Fault(Which),
     NoMemory,
-    /// The journal of this side's store is damaged at the gate at this offset.
-    Damaged { side: Side, offset: u64 },
+    /// The file on this disk is damaged at this offset.
+    Damaged {
+        disk: Which,
+        file: FileName,
+        offset: u64,
+    },
     /// The change with this vsn does not fit the fold of those before it.
-    Invalid { vsn: u64 },
+    Invalid {
+        vsn: u64,
+    },
     /// The recording breaks a rule that is no limit.
     Refused(Cause),
     /// The output failed: its count of faults rose.
     OutputFault,
-    /// A line of the segment, from 1, or a row text in it, has too many bytes.
-    TooLong { line: u64 },
-    /// There are metadata, which the dry run does not read yet.
-    NotBuilt,
+    /// A line of the file, from 1, or a row text in it, has too many bytes.
+    TooLong {
+        file: FileName,
+        line: u64,
+    },
+    /// The command needs what is not built yet.
+    NotBuilt(Unbuilt),
 }
 
 impl Answer {
@@ -116,7 +147,7 @@ impl Answer {
             Answer::Refused(_) => 8,
             Answer::OutputFault => 9,
             Answer::TooLong { .. } => 10,
-            Answer::NotBuilt => 11,
+            Answer::NotBuilt(_) => 11,
         }
     }
 
@@ -142,7 +173,7 @@ impl Answer {
             Answer::NoCommand => to.append_slice(b"voyager: no such command\n"),
             Answer::NoReading(phrase) => append_between(
                 b"voyager: the words after \"",
-                phrase.text(),
+                phrase_text(phrase),
                 b"\" have no reading\n",
                 to,
             ),
@@ -150,67 +181,130 @@ impl Answer {
                 append_between(b"voyager: disk fault: ", disk.name(), b"\n", to)
             }
             Answer::NoMemory => to.append_slice(b"voyager: out of memory\n"),
-            Answer::Damaged { side, offset } => append_damage(side, offset, to),
+            Answer::Damaged { disk, file, offset } => {
+                append_damage(disk.name(), file.text(), offset, to)
+            }
             Answer::Invalid { vsn } => {
                 append_numbered(b"voyager: invalid stream at vsn ", vsn, b"\n", to)
             }
-            Answer::Refused(cause) => cause.append_text(to),
+            Answer::Refused(cause) => append_refusal(
+                cause.file().text(),
+                cause.line(),
+                cause.why(),
+                to,
+            ),
             Answer::OutputFault => to.append_slice(b"voyager: output fault\n"),
-            Answer::TooLong { line } => {
-                append_numbered(b"voyager: limit: segment.0.ndjson line ", line, b"\n", to)
+            Answer::TooLong { file, line } => append_limit(file.text(), line, to),
+            Answer::NotBuilt(what) => {
+                append_between(b"voyager: not built: ", what.text(), b"\n", to)
             }
-            Answer::NotBuilt => to.append_slice(b"voyager: not built: meta.journal\n"),
         }
     }
 }
 
 impl Cause {
-    #[tactic(auto, unfolding(crate::specs::Answer::cause_text))]
-    fn append_text(self, to: &mut Bytes) -> Result<(), AllocError>
-        ensures { OnOk result (to.new ≡ to.old ++ cause_text self) }
+    /// The file that breaks a rule.
+    fn file(self) -> FileName
+        ensures { result ≡ cause_file self }
     {
         match self {
-            Cause::MissingSchema => {
-                to.append_slice(b"voyager: recording: schema.json line 0: missing\n")
-            }
-            Cause::Schema { table, why } => append_refusal(
-                b"voyager: recording: schema.json line ",
-                table as u64,
-                why.text(),
-                to,
-            ),
-            Cause::Segment { line, why } => append_refusal(
-                b"voyager: recording: segment.0.ndjson line ",
-                line,
-                why.text(),
-                to,
-            ),
+            Cause::MissingSchema | Cause::Schema { .. } => FileName::Schema,
+            Cause::Segment { .. } => FileName::Segment,
+        }
+    }
+
+    /// The line that its text names: for the schema the table.
+    fn line(self) -> u64
+        ensures { result ≡ cause_line self }
+    {
+        match self {
+            Cause::MissingSchema => 0,
+            Cause::Schema { table, .. } => table as u64,
+            Cause::Segment { line, .. } => line,
+        }
+    }
+
+    /// The rule.
+    #[tactic(auto, unfolding(crate::specs::Answer::cause_why))]
+    fn why(self) -> &'static str
+        ensures { result.now ≡ cause_why self }
+    {
+        match self {
+            Cause::MissingSchema => "missing",
+            Cause::Schema { why, .. } => why.text(),
+            Cause::Segment { why, .. } => why.text(),
         }
     }
 }
 
-/// Appends the disk and file that are damaged, and the offset.
-fn append_damage(side: Side, offset: u64, to: &mut Bytes) -> Result<(), AllocError>
-    ensures { OnOk result (to.new ≡ to.old ++ (codes "voyager: damaged: " ++ disk_name (disk_of side) ++ codes "/store.journal at " ++ decimal offset ++ codes "\n")) }
+/// A phrase as it is printed.
+#[tactic(auto, unfolding(crate::specs::Answer::phrase_text))]
+fn phrase_text(phrase: Phrase) -> &'static str
+    ensures { result.now ≡ phrase_text phrase }
 {
-    append_between(
-        b"voyager: damaged: ",
-        Which::of_store(side).name(),
-        b"/store.journal at ",
-        to,
-    )?;
-    to.append_slice(Buffer::new().format(offset).as_bytes())?;
+    match phrase {
+        Phrase::ExportFromSource => "export data from source",
+        Phrase::ExportFromTarget => "export data from target",
+        Phrase::ImportToTarget => "import data to target",
+        Phrase::ImportToSource => "import data to source",
+        Phrase::CutoverToTarget => "initiate cutover to target",
+        Phrase::CutoverToSource => "initiate cutover to source",
+        Phrase::LoadSource => "load source",
+        Phrase::CutoverStatus => "cutover status",
+        Phrase::Report => "get data-migration-report",
+        Phrase::ShowTarget => "show target",
+        Phrase::ShowSource => "show source",
+        Phrase::Rehearse => "rehearse",
+    }
+}
+
+/// Appends the disk and file that are damaged, and the offset.
+fn append_damage(disk: &str, file: &str, offset: u64, to: &mut Bytes) -> Result<(), AllocError>
+    ensures { OnOk result (to.new ≡ to.old ++ (codes "voyager: damaged: " ++ (disk.now ++ codes "/" ++ file.now) ++ (codes " at " ++ decimal offset ++ codes "\n"))) }
+{
+    to.append_slice(b"voyager: damaged: ")?;
+    append_path(disk, file, to)?;
+    append_numbered(b" at ", offset, b"\n", to)?;
+    Ok(())
+}
+
+/// Appends a file on a disk.
+fn append_path(disk: &str, file: &str, to: &mut Bytes) -> Result<(), AllocError>
+    ensures { OnOk result (to.new ≡ to.old ++ (disk.now ++ codes "/" ++ file.now)) }
+{
+    to.append_slice(disk.as_bytes())?;
+    to.append_slice(b"/")?;
+    to.append_slice(file.as_bytes())?;
+    Ok(())
+}
+
+/// Appends the refusal of a line of a file, with the words for its cause.
+fn append_refusal(file: &str, line: u64, why: &str, to: &mut Bytes) -> Result<(), AllocError>
+    ensures { OnOk result (to.new ≡ to.old ++ (codes "voyager: recording: " ++ (file.now ++ codes " line " ++ decimal line) ++ (codes ": " ++ why.now ++ codes "\n"))) }
+{
+    to.append_slice(b"voyager: recording: ")?;
+    append_line(file, line, to)?;
+    append_between(b": ", why, b"\n", to)?;
+    Ok(())
+}
+
+/// Appends the line of a file that is past a limit.
+fn append_limit(file: &str, line: u64, to: &mut Bytes) -> Result<(), AllocError>
+    ensures { OnOk result (to.new ≡ to.old ++ (codes "voyager: limit: " ++ (file.now ++ codes " line " ++ decimal line) ++ codes "\n")) }
+{
+    to.append_slice(b"voyager: limit: ")?;
+    append_line(file, line, to)?;
     to.append_slice(b"\n")?;
     Ok(())
 }
 
-/// Appends the refusal of a line, with the words for its cause.
-fn append_refusal(front: &[u8], line: u64, why: &str, to: &mut Bytes) -> Result<(), AllocError>
-    ensures { OnOk result (to.new ≡ to.old ++ (front.now ++ decimal line ++ codes ": " ++ why.now ++ codes "\n")) }
+/// Appends a line of a file.
+fn append_line(file: &str, line: u64, to: &mut Bytes) -> Result<(), AllocError>
+    ensures { OnOk result (to.new ≡ to.old ++ (file.now ++ codes " line " ++ decimal line)) }
 {
-    append_numbered(front, line, b": ", to)?;
-    to.append_slice(why.as_bytes())?;
-    to.append_slice(b"\n")?;
+    to.append_slice(file.as_bytes())?;
+    to.append_slice(b" line ")?;
+    to.append_slice(Buffer::new().format(line).as_bytes())?;
     Ok(())
 }
 

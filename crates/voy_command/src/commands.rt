@@ -1,14 +1,31 @@
-ghost use Rattle.std.specs.Prelude.{map, string_bytes};
-ghost use Rattle.voy_command.specs.Answered.{IsAnswered, IsDone};
-ghost use Rattle.voy_command.specs.Show.{IsShow};
+ghost use Rattle.std.specs.Prelude.{◌≡◌, ◌<◌, ℕ, List, Err, map, string_bytes};
+ghost use Rattle.voy_schema.specs.Refusal.{Refuses};
+ghost use Rattle.voy_words.specs.Reading.{cause_of, reading};
+ghost use Rattle.voy_words.specs.Table.{number_of};
+ghost use Rattle.voy_command.specs.Answered.{IsAnswered, IsDone, IsUnread};
+ghost use Rattle.voy_command.specs.Words.{task_of};
 
-use crate::answer::Answer;
-use crate::dry_run::dry_run;
-use crate::show::show;
-use crate::words::{Asked, read_words};
+mod dry_run;
+mod show;
+
+use crate::answer::{Answer, Unbuilt};
+use crate::commands::dry_run::dry_run;
+use crate::commands::show::show;
 use std::alloc::Global;
 use voy_disk::{Disk, Place, Sink};
 use voy_tables::Side;
+use voy_words::{Command, Phrase, Usage, WordsError, read_words};
+
+/// What a command comes to in this program.
+#[derive(Clone, Copy, Debug, PartialEq, Eq)]
+pub enum Task {
+    /// The dry run of an import into the target.
+    DryRun,
+    /// The store of this side is shown.
+    Show(Side),
+    /// The command of this phrase is not built yet.
+    Unbuilt(Phrase),
+}
 
 /// Does the one command that these words ask for, prints its text to `out` and a refusal to `err`, and
 /// gives the exit status.
@@ -19,43 +36,106 @@ pub fn command<D: Disk + Send, K: Sink>(
     out: &mut K,
     err: &mut K,
 ) -> u8
-    ensures answered { IsAnswered D.files D.faults K.written K.faults (map string_bytes words.now) result
-        (record { place = place.old; out = out.old; err = err.old }) (record { place = place.new; out = out.new; err = err.new }) }
+    ensures answered { IsAnswered (map string_bytes words.now) result
+        (record {
+          files = D.files;
+          faults = D.faults;
+          written = K.written;
+          failures = K.faults;
+          old = record { place = place.old; out = out.old };
+          new = record { place = place.new; out = out.new };
+        }) err.old err.new }
 {
-    let answer = do_asked(alloc, read_words(words), place, out);
+    let answer = do_asked(alloc, words, place, out);
     answer.tell(alloc, err);
     answer.status()
 }
 
-/// Does what is asked for.
+/// Does what these words ask for.
 fn do_asked<D: Disk + Send, K: Sink>(
     alloc: Global,
-    asked: Asked,
+    words: &[String],
     place: &mut Place<D>,
     out: &mut K,
 ) -> Answer
-    ensures { IsDone D.files D.faults K.written K.faults asked place.old place.new out.old out.new result }
+    ensures { IsDone (map string_bytes words.now)
+        (record {
+          files = D.files;
+          faults = D.faults;
+          written = K.written;
+          failures = K.faults;
+          old = record { place = place.old; out = out.old };
+          new = record { place = place.new; out = out.new };
+        }) result }
 {
-    match asked {
-        Asked::DryRun => dry_run(alloc, &mut place.recording, &mut place.export, out),
-        Asked::Show(side) => show_store(alloc, side, place, out),
-        Asked::NoReading(phrase) => Answer::NoReading(phrase),
-        Asked::NoCommand => Answer::NoCommand,
+    let command = match read_words(alloc, words) {
+        Ok(command) => command,
+        Err(error) => return unread(error),
+    };
+    match task_of(command) {
+        Task::DryRun => dry_run(alloc, place, out),
+        Task::Show(side) => show(alloc, side, place, out),
+        Task::Unbuilt(phrase) => Answer::NotBuilt(Unbuilt::Command(phrase)),
     }
 }
 
-/// Shows the store of that side.
-fn show_store<D: Disk + Send, K: Sink>(
-    alloc: Global,
-    side: Side,
-    place: &mut Place<D>,
-    out: &mut K,
-) -> Answer
-    ensures { IsShow D.files D.faults K.written K.faults side place.old place.new out.old out.new result }
+/// What is answered of words that were not read.
+fn unread(error: WordsError) -> Answer
+    ensures { (words : List (List ℕ)) → Refuses cause_of (reading words) error → IsUnread words result }
 {
-    match side {
-        Side::Target => show(alloc, side, &mut place.recording, &mut place.target, out),
-        Side::Source => show(alloc, side, &mut place.recording, &mut place.source, out),
+    match error {
+        WordsError::Usage(usage) => faulty(usage),
+        WordsError::NoMemory => Answer::NoMemory,
+    }
+}
+
+/// What is answered of words without a reading.
+fn faulty(usage: Usage) -> Answer
+    ensures { (words : List (List ℕ)) → reading words ≡ Err usage → IsUnread words result }
+{
+    match usage {
+        Usage::Phrase => Answer::NoCommand,
+        Usage::Rest { phrase } => Answer::NoReading(phrase_at(phrase)),
+    }
+}
+
+/// What a command comes to.
+fn task_of(command: Command) -> Task
+    ensures { result ≡ task_of command }
+{
+    match command {
+        Command::ExportSource { .. } => Task::Unbuilt(Phrase::ExportFromSource),
+        Command::ExportTarget { .. } => Task::Unbuilt(Phrase::ExportFromTarget),
+        Command::ImportTarget { dry_run: true, .. } => Task::DryRun,
+        Command::ImportTarget { dry_run: false, .. } => Task::Unbuilt(Phrase::ImportToTarget),
+        Command::ImportSource { .. } => Task::Unbuilt(Phrase::ImportToSource),
+        Command::CutoverTarget { .. } => Task::Unbuilt(Phrase::CutoverToTarget),
+        Command::CutoverSource => Task::Unbuilt(Phrase::CutoverToSource),
+        Command::LoadSource => Task::Unbuilt(Phrase::LoadSource),
+        Command::Status => Task::Unbuilt(Phrase::CutoverStatus),
+        Command::Report => Task::Unbuilt(Phrase::Report),
+        Command::Show { side } => Task::Show(side),
+        Command::Rehearse { .. } => Task::Unbuilt(Phrase::Rehearse),
+    }
+}
+
+/// The phrase of this number.
+fn phrase_at(number: u32) -> Phrase
+    ensures { number < 12 → number_of result ≡ number }
+{
+    match number {
+        0 => Phrase::ExportFromSource,
+        1 => Phrase::ExportFromTarget,
+        2 => Phrase::ImportToTarget,
+        3 => Phrase::ImportToSource,
+        4 => Phrase::CutoverToTarget,
+        5 => Phrase::CutoverToSource,
+        6 => Phrase::LoadSource,
+        7 => Phrase::CutoverStatus,
+        8 => Phrase::Report,
+        9 => Phrase::ShowTarget,
+        10 => Phrase::ShowSource,
+        _ => Phrase::Rehearse,
     }
 }
 
@@ -67,8 +147,15 @@ pub fn run<D: Disk + Send, K: Sink>(
     out: &mut K,
     err: &mut K,
 ) -> u8
-    ensures answered { IsAnswered D.files D.faults K.written K.faults (map string_bytes words.now) result
-        (record { place = place.old; out = out.old; err = err.old }) (record { place = place.new; out = out.new; err = err.new }) }
+    ensures answered { IsAnswered (map string_bytes words.now) result
+        (record {
+          files = D.files;
+          faults = D.faults;
+          written = K.written;
+          failures = K.faults;
+          old = record { place = place.old; out = out.old };
+          new = record { place = place.new; out = out.new };
+        }) err.old err.new }
 {
     command(alloc, words, place, out, err)
 }

@@ -1,20 +1,25 @@
-ghost use Rattle.std.specs.Prelude.{◌≡◌, IfOk, map, option_map, string_bytes};
+ghost use Rattle.std.specs.Prelude.{◌≡◌, IfOk};
 ghost use Rattle.voy_disk.specs.HostDisk.{host_disk_folder};
-ghost use Rattle.voy_command.specs.Words.{IsBelow, export_dir, folder_below, non_empty};
+ghost use Rattle.voy_command.specs.Words.{IsBelow, folder_below};
 
 use crate::answer::Answer;
 use crate::commands::run;
 use std::alloc::{AllocError, Global};
 use std::env;
+use std::io::ErrorKind;
 use voy_disk::{HostDisk, HostSink, Place};
+use voy_words::export_dir;
 
 /// Runs the program over the folders below the one that its words name, and gives the exit status.
 pub fn start(rt: HostRuntime) -> u8 {
     let mut out = HostSink::out(rt.stdout());
     let mut err = HostSink::err(rt.stderr());
-    let Ok(words) = words_of(&rt) else {
-        Answer::NoMemory.tell(rt.alloc(), &mut err);
-        return Answer::NoMemory.status();
+    let words = match words_of(&rt) {
+        Ok(words) => words,
+        Err(refused) => {
+            refused.tell(rt.alloc(), &mut err);
+            return refused.status();
+        }
     };
     let Some(folder) = export_dir(&words) else {
         Answer::NoCommand.tell(rt.alloc(), &mut err);
@@ -28,39 +33,24 @@ pub fn start(rt: HostRuntime) -> u8 {
     run(rt.alloc(), command, &mut place, &mut out, &mut err)
 }
 
-/// The words behind the program's name.
-fn words_of(rt: &HostRuntime) -> Result<Vec<String>, AllocError> {
-    let Ok(args) = env::args(rt) else {
-        return Err(AllocError);
+/// The words behind the program's name. Where one of them is not UTF-8, there is no command.
+fn words_of(rt: &HostRuntime) -> Result<Vec<String>, Answer> {
+    let args = match env::args(rt) {
+        Ok(args) => args,
+        Err(error) => {
+            return Err(match error.kind() {
+                ErrorKind::InvalidData => Answer::NoCommand,
+                _ => Answer::NoMemory,
+            });
+        }
     };
     let mut words = Vec::new(rt.alloc());
     for word in args.skip(1) {
-        words.push(word)?;
+        if words.push(word).is_err() {
+            return Err(Answer::NoMemory);
+        }
     }
     Ok(words)
-}
-
-/// The folder: the second word, exactly where the first is `--export-dir` and the second is not empty.
-#[tactic(auto, unfolding(crate::specs::Words::export_dir))]
-pub fn export_dir(words: &[String]) -> Option<&str>
-    ensures { option_map (λ folder. folder.now) result ≡ export_dir (map string_bytes words.now) }
-{
-    match words {
-        [option, folder, _command @ ..] => {
-            if option.as_str() == "--export-dir" {
-                non_empty(folder.as_str())
-            } else {
-                None
-            }
-        }
-        _ => None,
-    }
-}
-
-fn non_empty(text: &str) -> Option<&str>
-    ensures { option_map (λ folder. folder.now) result ≡ non_empty text.now }
-{
-    if text.is_empty() { None } else { Some(text) }
 }
 
 /// The four disks below a folder, each a folder of its name.

@@ -1,5 +1,5 @@
-ghost use Rattle.voy_command.specs.Show.{StoresHaveOneText};
-ghost use Rattle.voy_command.specs.Valid.{ValidStreamsFold};
+ghost use Rattle.voy_command.specs.Commands.Show.{StoresHaveOneText};
+ghost use Rattle.voy_command.specs.Commands.DryRun.Valid.{ValidStreamsFold};
 
 use voy_journal::one_reading;
 use voy_tables::{empty_lists_have_no_rows, lists_are_tables, misfit_is_none_where_it_fits};

@@ -1,7 +1,7 @@
 //! `voyager` moves a recorded source into a target.
 //!
 //! `voyager --export-dir DIR COMMAND..` works on four folders below `DIR`: `recording`, `export`, and the two
-//! stores, `target` and `source`. So far it has these commands:
+//! stores, `target` and `source`. It reads the words of every command, and so far does these:
 //!
 //! - `import data to target --dry-run` prints the rows that an import of the exported events would leave, and
 //!   says whether the cutover event was reached.

@@ -9,18 +9,10 @@ pub returns-in-OutputFault : goal.returns-in-OutputFault
 unfolding text_on_err
 returns-in-OutputFault c = rw c.in-OutputFault.is c.append_slice-in-OutputFault.ensures.ok
 
-pub returns-in-TooLong : goal.returns-in-TooLong
+pub returns-in-NoMemory : goal.returns-in-NoMemory
 unfolding text_on_err
-returns-in-TooLong c = rw c.in-TooLong.is c.append_numbered-in-TooLong.ensures
-
-pub returns-in-NotBuilt : goal.returns-in-NotBuilt
-unfolding text_on_err
-returns-in-NotBuilt c = rw c.in-NotBuilt.is c.append_slice-in-NotBuilt.ensures.ok
+returns-in-NoMemory c = rw c.in-NoMemory.is c.append_slice-in-NoMemory.ensures.ok
 
 pub returns-in-Fault : goal.returns-in-Fault
 unfolding text_on_err
 returns-in-Fault c = rw (c.in-Fault.is, ← c.name.ensures) c.append_between-in-Fault.ensures
-
-pub returns-in-NoMemory : goal.returns-in-NoMemory
-unfolding text_on_err
-returns-in-NoMemory c = rw c.in-NoMemory.is c.append_slice-in-NoMemory.ensures.ok

@@ -1,0 +1,2 @@
+pub mod DryRun
+pub mod Show
