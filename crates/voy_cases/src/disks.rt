@@ -1,9 +1,8 @@
-use crate::case::{Case, first_word, number_of};
-use crate::files::{error_text, told};
-use crate::pieces::push_piece;
-use crate::showing::quoted_bytes;
-use crate::trouble::Trouble;
 use std::alloc::Global;
+use voy_case_text::{
+    Case, Trouble, error_text, first_word, name_of, number_of, numbers_of, push_piece,
+    quoted_bytes, told,
+};
 use voy_disk::{Disk, DiskError, FaultPlan, MemDisk, Name, Numbers};
 
 /// What the calls on a disk in memory answer, one behind the other, by the plan of the case's words.
@@ -34,31 +33,6 @@ fn plan_of(alloc: Global, words: &str) -> Result<FaultPlan, Trouble> {
         }
     }
     Ok(plan)
-}
-
-/// The plan by which the calls with these numbers fail.
-pub fn planned(alloc: Global, numbers: &str) -> Result<FaultPlan, Trouble> {
-    Ok(FaultPlan {
-        fail: numbers_of(alloc, numbers)?,
-        dead_from: 0,
-        leaves: 0,
-    })
-}
-
-fn numbers_of(alloc: Global, text: &str) -> Result<Numbers, Trouble> {
-    let mut numbers = Vec::new(alloc);
-    for number in text.split(' ') {
-        numbers.extend_from_slice(&[number_of(number)?])?;
-    }
-    Ok(Numbers::from_vec(numbers))
-}
-
-/// The name of a file.
-pub fn name_of(alloc: Global, text: &str) -> Result<Name, Trouble> {
-    match Name::new(alloc, text)? {
-        Some(name) => Ok(name),
-        None => Err(Trouble::Case("no name of a file")),
-    }
 }
 
 /// What one call answers.

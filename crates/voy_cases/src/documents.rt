@@ -1,6 +1,5 @@
-use crate::case::Case;
-use crate::trouble::Trouble;
 use std::alloc::Global;
+use voy_case_text::{Case, Trouble};
 use voy_json::{ParseError, parse};
 
 /// Whether the rows are a JSON document.

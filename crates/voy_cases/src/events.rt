@@ -1,8 +1,7 @@
-use crate::case::Case;
 use crate::schemas::{push_table_name, schema_of};
-use crate::trouble::Trouble;
 use crate::values::push_row;
 use std::alloc::Global;
+use voy_case_text::{Case, Trouble};
 use voy_event::{Event, LineError, Recorded, What, read_change, read_line, write_line};
 use voy_schema::{Bytes, Copies, Schema};
 use voy_tables::{Change, Role};

@@ -1,8 +1,8 @@
-use crate::case::{Case, first_word, number_of};
-use crate::disks::{name_of, planned};
-use crate::showing::{hexadecimal, quoted_bytes};
-use crate::trouble::Trouble;
 use std::alloc::Global;
+use voy_case_text::{
+    Case, Trouble, error_text, first_word, hexadecimal, name_of, number_of, planned, quoted_bytes,
+    told,
+};
 use voy_disk::{DiskError, FaultPlan, MemDisk, Name};
 use voy_files::{ByteReader, Found, LineReader, read_file};
 
@@ -241,16 +241,4 @@ fn disk_of(alloc: Global, case: &Case, failing: &str) -> Result<(MemDisk, Name),
         disk.put_file(&name, case.bytes(alloc)?.as_slice())?;
     }
     Ok((disk, name))
-}
-
-pub fn told(alloc: Global, text: &str) -> Result<String, Trouble> {
-    let told = String::from_str(alloc, text)?;
-    Ok(told)
-}
-
-pub fn error_text(error: DiskError) -> &'static str {
-    match error {
-        DiskError::Failed => "fault",
-        DiskError::NoMemory => "no memory",
-    }
 }

@@ -1,13 +1,8 @@
 ghost use Rattle.std.specs.Prelude.{IsTrue};
 ghost use Rattle.voy_journal.specs.Journal.{StandsOn, is_live};
 
-use crate::case::Case;
-use crate::disks::name_of;
-use crate::files::told;
-use crate::pieces::push_piece;
-use crate::showing::hexadecimal;
-use crate::trouble::Trouble;
 use std::alloc::Global;
+use voy_case_text::{Case, Trouble, hexadecimal, name_of, push_piece, told};
 use voy_disk::{Disk, Name, SureDisk};
 use voy_journal::{Journal, JournalError, Payloads};
 

@@ -5,52 +5,35 @@
 //! order; the gate compares it with the file `stdout`, which comes from there too. A further case takes no proof.
 #![tactic(auto)]
 
-mod case;
-mod commands;
 mod disks;
 mod documents;
 mod events;
 mod files;
 mod journals;
 mod payloads;
-mod pieces;
 mod plain;
 mod rows;
 mod schemas;
-mod showing;
 mod sizes;
 mod stores;
-mod trouble;
 mod txns;
 mod values;
 mod words;
 
-use case::Case;
-use std::alloc::{AllocError, Global};
+use std::alloc::Global;
 use std::io;
-use trouble::Trouble;
+use voy_case_text::{Case, Trouble, line_of};
 
 fn main(rt: HostRuntime) -> io::Result<()> {
     let alloc = rt.alloc();
     let text = io::read_to_string(alloc, rt.stdin())?;
     for paragraph in text.as_str().split("\n\n") {
         if let Some(case) = Case::new(text.as_str(), paragraph) {
-            let line = line_of(alloc, &case)?;
+            let line = line_of(alloc, case.name, came_to(alloc, &case))?;
             rt.print(line.as_str())?;
         }
     }
     Ok(())
-}
-
-/// The case's name and what it came to.
-fn line_of(alloc: Global, case: &Case) -> Result<String, AllocError> {
-    let name = case.name;
-    match came_to(alloc, case) {
-        Ok(text) => format!(in alloc; "{name}: {text}\n"),
-        Err(Trouble::Case(why)) => format!(in alloc; "{name}: NO CASE: {why}\n"),
-        Err(Trouble::Apart(why)) => format!(in alloc; "{name}: NOT SO: {why}\n"),
-        Err(Trouble::NoMemory) => format!(in alloc; "{name}: no memory\n"),
-    }
 }
 
 /// What the case came to.
@@ -88,7 +71,6 @@ fn came_to(alloc: Global, case: &Case) -> Result<String, Trouble> {
         "journal" => journals::journal(alloc, case),
         "store" => stores::store(alloc, case),
         "stored" => stores::stored(alloc, case),
-        "command" => commands::command(alloc, case),
         "words" => words::words(alloc, case),
         "folder" => words::folder(alloc, case),
         _ => Err(Trouble::Case("no such kind")),

@@ -1,7 +1,6 @@
-use crate::case::{first_word, number_of};
 use crate::stores::place_of;
-use crate::trouble::Trouble;
 use std::alloc::Global;
+use voy_case_text::{Trouble, first_word, number_of};
 
 /// The payload of a transaction in short form: `batch TABLE NUMBER ROW;ROW..`, `load ROW;ROW..` of one table,
 /// `epoch VSN CHANNELS`, or `changes CHANNEL CHANGE;CHANGE..`. The rows are row texts without LF; a change is `c VSN ID EMAIL`,

@@ -1,8 +1,7 @@
-use crate::case::{Case, first_word};
 use crate::schemas::{push_table_name, schema_of};
-use crate::trouble::Trouble;
 use crate::values::{push_answer, push_rows, row_of};
 use std::alloc::Global;
+use voy_case_text::{Case, Trouble, first_word};
 use voy_tables::{Change, Misfit, Plain, PlainError, key_of, well_formed};
 
 /// What plain tables make of changes of the first table, one after the other, and the rows at the end.

@@ -1,9 +1,7 @@
-use crate::case::{Case, number_of};
 use crate::schemas::schema_of;
-use crate::showing::quoted;
-use crate::trouble::Trouble;
 use crate::values::{push_rows, row_of, rows_of, text_at};
 use std::alloc::Global;
+use voy_case_text::{Case, Trouble, number_of, quoted};
 use voy_report::table_text;
 use voy_schema::{Bytes, Row, Rows, Schema, Table, Text, Value};
 use voy_tables::{RowError, read_recorded, read_rows, row_text_is_too_long, write_row};

@@ -1,9 +1,7 @@
-use crate::case::{Case, first_word};
-use crate::showing::quoted;
-use crate::trouble::Trouble;
 use crate::values::{push_answer, row_of, rows_of, text_at, value_of};
 use std::alloc::Global;
 use std::cmp::Ordering;
+use voy_case_text::{Case, Trouble, first_word, quoted};
 use voy_schema::{
     Copies, Kind, Row, Schema, SchemaError, Table, Text, Tuple, Value, check_value, is_lawful_row,
     is_lawful_value,

@@ -1,8 +1,7 @@
-use crate::case::Case;
 use crate::schemas::schema_of;
-use crate::trouble::Trouble;
 use crate::values::rows_of;
 use std::alloc::Global;
+use voy_case_text::{Case, Trouble};
 use voy_schema::{Copies, Rows, Schema};
 use voy_tables::RowLists;
 use voy_txn::{Txn, payload_bytes};

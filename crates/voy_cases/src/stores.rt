@@ -1,16 +1,12 @@
 ghost use Rattle.std.specs.Prelude.{◌≡◌, true};
 ghost use Rattle.voy_contents.specs.Known.{schema_of};
 
-use crate::case::{Case, first_word, number_of};
-use crate::disks::name_of;
-use crate::files::told;
 use crate::payloads::payload_of;
 use crate::plain::misfit_text;
 use crate::schemas::schema_of;
-use crate::showing::quoted_bytes;
-use crate::trouble::Trouble;
 use crate::values::{push_row, push_rows};
 use std::alloc::Global;
+use voy_case_text::{Case, Trouble, first_word, name_of, number_of, quoted_bytes, told};
 use voy_disk::SureDisk;
 use voy_report::show_text;
 use voy_schema::{Bytes, Copies, Items, Key, Schema, Text};

@@ -1,10 +1,9 @@
 ghost use Rattle.voy_txn.specs.LawfulTxn.{IsLawfulTxn};
 
-use crate::case::Case;
 use crate::schemas::{push_table_name, schema_of};
-use crate::trouble::Trouble;
 use crate::values::push_rows;
 use std::alloc::Global;
+use voy_case_text::{Case, Trouble};
 use voy_event::Event;
 use voy_schema::{Bytes, Copies, Row, Rows, Schema};
 use voy_txn::{Txn, payload_bytes, read_txn, write_txn};

@@ -1,7 +1,6 @@
-use crate::showing::quoted;
-use crate::trouble::Trouble;
 use serde_json::Value as Json;
 use std::alloc::Global;
+use voy_case_text::{Trouble, quoted};
 use voy_json::{ParseError, parse};
 use voy_schema::{Row, Rows, Text, Value};
 

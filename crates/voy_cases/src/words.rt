@@ -1,7 +1,5 @@
-use crate::case::Case;
-use crate::showing::quoted;
-use crate::trouble::Trouble;
 use std::alloc::Global;
+use voy_case_text::{Case, Trouble, quoted};
 use voy_tables::Side;
 use voy_words::{Asked, Command, Usage, WordsError, export_dir, read_words};
 

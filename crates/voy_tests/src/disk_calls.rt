@@ -10,11 +10,11 @@ ghost use Rattle.voy_disk.specs.Calls.{IsThereWith};
 ghost use Rattle.voy_disk.specs.Files.{IfTold};
 ghost use Rattle.voy_disk.specs.MemFiles.{shown};
 
-use crate::made::name_of;
 use std::alloc::{AllocError, Global};
 use std::rt::Files;
 use std::test::Fail;
 use voy_disk::{Disk, DiskError, HostDisk, MemDisk, Name, SureDisk};
+use voy_test_disks::name_of;
 
 /// A disk of which what its calls ask for can be tried first.
 pub(crate) trait Tried: Disk {

@@ -1,12 +1,12 @@
 ghost use Rattle.std.specs.Prelude.{IsTrue};
 ghost use Rattle.voy_journal.specs.Journal.{StandsOn, is_live};
 
-use crate::made::{failing_disk, name_of, stopping_disk};
 use std::alloc::{AllocGlobal, Global};
 use std::process::Abort;
 use std::test::Fail;
 use voy_disk::{Disk, MemDisk, SureDisk};
 use voy_journal::{Journal, JournalError, Payloads};
+use voy_test_disks::{failing_disk, name_of, stopping_disk};
 
 /// The name of the journal's file.
 const NAME: &str = "meta.journal";

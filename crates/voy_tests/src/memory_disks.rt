@@ -1,8 +1,8 @@
 use crate::disk_calls::answered;
-use crate::made::{name_of, stopping_disk};
 use std::alloc::Global;
 use std::test::Fail;
 use voy_disk::{Disk, DiskError, FaultPlan, Name, Place, SureDisk};
+use voy_test_disks::{name_of, stopping_disk};
 
 fn sure_disk(alloc: Global) -> Result<SureDisk, Fail> {
     let mut disk = SureDisk::new(alloc);

@@ -1,9 +1,9 @@
 use crate::disk_calls::answer;
-use crate::made::{name_of, stopping_disk};
 use std::alloc::{AllocGlobal, Global};
 use std::process::Abort;
 use std::test::Fail;
 use voy_disk::{Disk, MemDisk};
+use voy_test_disks::{name_of, stopping_disk};
 
 /// How many outages are tried.
 const CHOICES: u64 = 50;

@@ -1,5 +1,5 @@
 use Rattle.std.proofs.Common.{◌≡◌, true}
-use Rattle.voy_tests.proofs.epochs.play.Given as goal
+use Rattle.voy_store_tests.proofs.epochs.play.Given as goal
 
 abbrev pub invariant-draws : goal.invariant-draws
 invariant-draws g l = record {

@@ -1,6 +1,6 @@
 ghost use Rattle.std.specs.Prelude.{◌≡◌, true, OnOk};
 
-use crate::made::{stopping_disk, users};
+use crate::made::users;
 use crate::plain_tables::{apply, drawn_change, next, only_change};
 use crate::store_texts::{commit, epoch, events, told};
 use crate::stores::{CHOICES, COMMIT_CALLS, OPENING_CALLS, opened};
@@ -11,6 +11,7 @@ use voy_disk::SureDisk;
 use voy_schema::{Bytes, Copies, Schema};
 use voy_store::MemStore;
 use voy_tables::{Misfit, Plain};
+use voy_test_disks::stopping_disk;
 use voy_txn::{Store, StoreError, Txn, is_next, read_txn};
 
 /// How many transactions are drawn.

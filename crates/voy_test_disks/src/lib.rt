@@ -1,26 +1,18 @@
+//! The disks of tests: in memory, with a plan of calls that fail, or with a file.
+#![tactic(auto)]
+
 use std::alloc::Global;
 use std::test::Fail;
 use voy_disk::{FaultPlan, MemDisk, Name, Numbers, SureDisk};
-use voy_schema::Schema;
 
-/// `users` with the bigint key `id` and the unique text `email`.
-const USERS: &[u8] =
-    br#"{"tables":[{"schema_name":"public","table_name":"users","columns":[{"name":"id","type":"bigint"},{"name":"email","type":"text"}],"primary_key":["id"],"unique_keys":[{"columns":["email"]}]}]}"#;
-
-pub(crate) fn users(alloc: Global) -> Result<Schema, Fail> {
-    match Schema::read(alloc, USERS) {
-        Ok(schema) => Ok(schema),
-        Err(_refused) => Err("a schema".into()),
-    }
-}
-
-pub(crate) fn name_of(alloc: Global, text: &str) -> Result<Name, Fail> {
+/// The name of a file.
+pub fn name_of(alloc: Global, text: &str) -> Result<Name, Fail> {
     let name = Name::new(alloc, text)?.ok_or("the text is no file name")?;
     Ok(name)
 }
 
 /// A disk all of whose calls fail from this one on, and leave what `leaves` picks; 0 for no such call.
-pub(crate) fn stopping_disk(alloc: Global, call: u64, leaves: u64) -> MemDisk {
+pub fn stopping_disk(alloc: Global, call: u64, leaves: u64) -> MemDisk {
     let plan = FaultPlan {
         fail: Numbers::from_vec(Vec::new(alloc)),
         dead_from: call,
@@ -30,7 +22,7 @@ pub(crate) fn stopping_disk(alloc: Global, call: u64, leaves: u64) -> MemDisk {
 }
 
 /// A disk of which just this call fails, and leaves what `leaves` picks.
-pub(crate) fn failing_disk(alloc: Global, call: u64, leaves: u64) -> Result<MemDisk, Fail> {
+pub fn failing_disk(alloc: Global, call: u64, leaves: u64) -> Result<MemDisk, Fail> {
     let mut calls = Vec::new(alloc);
     calls.push(call)?;
     let plan = FaultPlan {
@@ -42,7 +34,7 @@ pub(crate) fn failing_disk(alloc: Global, call: u64, leaves: u64) -> Result<MemD
 }
 
 /// A disk with this file alone.
-pub(crate) fn disk_with(alloc: Global, name: &str, bytes: &[u8]) -> Result<SureDisk, Fail> {
+pub fn disk_with(alloc: Global, name: &str, bytes: &[u8]) -> Result<SureDisk, Fail> {
     let mut disk = SureDisk::new(alloc);
     disk.put_file(&name_of(alloc, name)?, bytes)?;
     Ok(disk)

@@ -88,3 +88,9 @@ pub fn quoted_bytes(alloc: Global, bytes: &[u8]) -> Result<String, Trouble> {
         }
     }
 }
+
+/// The words as they are.
+pub fn told(alloc: Global, text: &str) -> Result<String, Trouble> {
+    let told = String::from_str(alloc, text)?;
+    Ok(told)
+}

@@ -1,6 +1,6 @@
 ghost use Rattle.std.specs.Prelude.{◌≡◌, true, IfOk};
 
-use crate::made::{disk_with, name_of, stopping_disk, users};
+use crate::made::users;
 use crate::store_texts::{BATCH, commit, events, told};
 use std::alloc::{AllocGlobal, Global};
 use std::process::Abort;
@@ -8,6 +8,7 @@ use std::test::Fail;
 use voy_disk::{Disk, SureDisk};
 use voy_schema::{Copies, Schema};
 use voy_store::{JournalStore, NotOpened, OpenError};
+use voy_test_disks::{disk_with, name_of, stopping_disk};
 use voy_txn::Store;
 
 /// The name of the journal's file.

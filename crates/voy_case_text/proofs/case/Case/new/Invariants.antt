@@ -1,6 +1,6 @@
 use denote.Text.{Utf8}
 use denote.Shadow.{shadow}
-use Rattle.voy_cases.proofs.case.Case.new.Given as goal
+use Rattle.voy_case_text.proofs.case.Case.new.Given as goal
 
 -- what is left of the paragraph is a text
 abbrev pub invariant-loop-line : goal.invariant-loop-line

@@ -1,9 +1,7 @@
-use crate::case::{Case, first_word, number_of};
-use crate::disks::{name_of, planned};
-use crate::pieces::push_piece;
-use crate::showing::{hexadecimal, quoted_bytes};
-use crate::trouble::Trouble;
 use std::alloc::Global;
+use voy_case_text::{
+    Case, Trouble, first_word, hexadecimal, name_of, number_of, planned, push_piece, quoted_bytes,
+};
 use voy_command::run;
 use voy_disk::{FaultPlan, MemDisk, MemSink, Place};
 
