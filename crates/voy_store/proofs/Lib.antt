@@ -1,2 +1,3 @@
 pub mod JournalLogLemmas
 pub mod OpeningLemmas
+pub mod TakenLemmas

@@ -7,4 +7,5 @@ pub mod BesideLaws
 pub mod JournalLogs
 pub mod JournalLogLaws
 pub mod Opening
+pub mod Taken
 pub mod Taking

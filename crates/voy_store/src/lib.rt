@@ -19,6 +19,7 @@
 
 mod journal_log;
 mod journal_store;
+mod laws;
 mod log;
 mod log_error;
 mod log_store;
@@ -30,6 +31,7 @@ mod taking;
 
 pub use journal_log::JournalLog;
 pub use journal_store::JournalStore;
+pub use laws::taken_histories_open;
 pub use log::Log;
 pub use log_error::LogError;
 pub use log_store::LogStore;

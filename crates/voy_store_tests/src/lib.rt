@@ -9,6 +9,8 @@ mod contents;
 #[cfg(test)]
 mod epochs;
 #[cfg(test)]
+mod laws;
+#[cfg(test)]
 mod made;
 #[cfg(test)]
 mod plain_tables;
