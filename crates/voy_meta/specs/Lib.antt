@@ -1,8 +1,10 @@
 pub mod Records
 pub mod Reading
+pub mod PayloadLaws
 pub mod State
 pub mod Sides
 pub mod Allowed
 pub mod Stages
 pub mod Meta
 pub mod Stands
+pub mod Opening
