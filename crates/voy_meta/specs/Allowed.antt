@@ -1,13 +1,12 @@
 -- Which record may stand behind those that come to a state.
-use Rattle.std.specs.Prelude.{◌≡◌, ℕ, suc, Bool, true, false, ◌==◌, ◌&&◌, ◌||◌, ◌+◌, not, nat_lt, nat_le, List, [], ◌∷◌, Option, Some, None, is_none, is_some, length, slice_get, if◌then◌else◌}
-use Rattle.std.specs.List.{list_last}
+use Rattle.std.specs.Prelude.{ℕ, zero, suc, Bool, true, false, ◌==◌, ◌&&◌, ◌||◌, not, nat_lt, nat_le, List, [], ◌∷◌, Option, Some, None, is_none, is_some, length, slice_get, if◌then◌else◌}
 use Rattle.voy_schema.specs.declared.limits.TheConstants.{MAX_TABLES}
 use Rattle.voy_tables.specs.declared.change.Role.{Role}
 use Rattle.voy_tables.specs.declared.change.Role.TheVariants as role
 use Rattle.voy_tables.specs.declared.change.Side.{Side}
 use Rattle.voy_tables.specs.declared.change.Side.TheVariants as side
 use Rattle.voy_tables.specs.declared.change.Spot.{Spot}
-use Rattle.voy_meta.specs.Sides.{channels_of, feeds, finished_of, is_done, is_ended, is_role, last_of, leads_to, request_of}
+use Rattle.voy_meta.specs.Sides.{channels_of, feeds, finished_of, is_done, is_ended, is_role, last_of, last_segment, leads_to, request_of}
 use Rattle.voy_meta.specs.State.{after_record, empty_state}
 use Rattle.voy_meta.specs.declared.limits.TheConstants.{MAX_CHANNELS, MAX_SEGMENT, MAX_SEGMENT_BYTES, MAX_SNAPSHOT_BYTES, MAX_VSN, OPEN_SEGMENT_BYTES}
 use Rattle.voy_meta.specs.declared.record.MetaRecord.{MetaRecord}
@@ -70,15 +69,21 @@ spot_follows (Some last) (Some spot) = is_up_to last spot
 -- an end closes its segment, comes with an event more, and was asked for
 abbrev pub may_end : MetaState → (last_vsn : ℕ) → Role → (closed ended : Bool) → Bool
 may_end state last_vsn role closed false = true
-may_end state last_vsn role closed true = closed && (nat_lt (vsn_before (list_last state.segments)) last_vsn && is_some (request_of (leads_to role) state))
+may_end state last_vsn role closed true = closed && (nat_lt (vsn_before (last_segment state)) last_vsn && is_some (request_of (leads_to role) state))
+
+-- a segment that goes on or begins, within the limits
+abbrev pub segment_follows : MetaState → (segment bytes : ℕ) → (closed : Bool) → Bool
+segment_follows state segment bytes closed =
+    goes_on (last_segment state) (length state.segments) segment bytes && (nat_le segment MAX_SEGMENT && is_within bytes closed)
+
+-- a last vsn, which does not fall, from 1 on
+abbrev pub vsn_follows : MetaState → (last_vsn : ℕ) → Bool
+vsn_follows state last_vsn = nat_le (vsn_before (last_segment state)) last_vsn && (nat_le 1 last_vsn && nat_le last_vsn MAX_VSN)
 
 abbrev pub queue_follows : MetaState → (segment bytes last_vsn : ℕ) → Role → Option Spot → (closed ended : Bool) → Bool
 queue_follows state segment bytes last_vsn role spot closed ended =
-    has_snapshot state && (writes state role
-    && (goes_on (list_last state.segments) (length state.segments) segment bytes
-    && (nat_le segment MAX_SEGMENT && (is_within bytes closed
-    && (nat_le (vsn_before (list_last state.segments)) last_vsn && (nat_le 1 last_vsn && (nat_le last_vsn MAX_VSN
-    && (spot_follows (last_of role state) spot && may_end state last_vsn role closed ended))))))))
+    has_snapshot state && (writes state role && (segment_follows state segment bytes closed
+    && (vsn_follows state last_vsn && (spot_follows (last_of role state) spot && may_end state last_vsn role closed ended))))
 
 -- the first request of a side: to the target where the snapshot is whole, to the source where a fall-back is possible
 abbrev pub request_follows : MetaState → Side → Bool → Bool

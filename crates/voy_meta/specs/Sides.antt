@@ -1,11 +1,12 @@
 -- The fields of a state by side and by exporter. The source's exporter feeds the target's store, and the other way about.
-use Rattle.std.specs.Prelude.{ℕ, Bool, true, false, Option, Some, None}
+use Rattle.std.specs.Prelude.{ℕ, ◌-◌, Bool, true, false, Option, length, slice_get}
 use Rattle.voy_tables.specs.declared.change.Role.{Role}
 use Rattle.voy_tables.specs.declared.change.Role.TheVariants as role
 use Rattle.voy_tables.specs.declared.change.Side.{Side}
 use Rattle.voy_tables.specs.declared.change.Side.TheVariants as side
 use Rattle.voy_tables.specs.declared.change.Spot.{Spot}
 use Rattle.voy_meta.specs.declared.state.MetaState.{MetaState}
+use Rattle.voy_meta.specs.declared.state.SegmentState.{SegmentState}
 
 -- the exporter whose events go into the store of this side
 abbrev pub feeds : Side → Role
@@ -46,3 +47,7 @@ finished_of side.Source state = state.finished_source
 abbrev pub is_done : Side → MetaState → Bool
 is_done side.Target state = state.done_target
 is_done side.Source state = state.done_source
+
+-- what is recorded of the last segment
+abbrev pub last_segment : MetaState → Option SegmentState
+last_segment state = slice_get state.segments (length state.segments - 1)

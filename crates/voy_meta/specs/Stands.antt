@@ -1,13 +1,12 @@
 -- What holds of every state that allowed records come to.
-use Rattle.std.specs.Prelude.{◌≡◌, ◌≢◌, ◌<◌, ◌≤◌, ◌⊎◌, ℕ, suc, Bool, true, false, ◌&&◌, List, [], ◌∷◌, Option, Some, None, length, slice_get}
-use Rattle.std.specs.List.{list_any, list_last}
+use Rattle.std.specs.Prelude.{◌≡◌, ◌≢◌, ◌≤◌, ℕ, suc, Bool, true, false, ◌&&◌, [], Some, None, length, slice_get}
+use Rattle.std.specs.List.{list_any}
 use Rattle.voy_schema.specs.declared.limits.TheConstants.{MAX_TABLES}
 use Rattle.voy_tables.specs.declared.change.Role.{Role}
 use Rattle.voy_tables.specs.declared.change.Role.TheVariants as role
 use Rattle.voy_tables.specs.declared.change.Side.{Side}
-use Rattle.voy_tables.specs.declared.change.Side.TheVariants as side
 use Rattle.voy_meta.specs.Allowed.{has_fall_back, has_snapshot}
-use Rattle.voy_meta.specs.Sides.{channels_of, feeds, finished_of, is_done, is_ended, is_role, leads_to, request_of}
+use Rattle.voy_meta.specs.Sides.{feeds, finished_of, is_done, is_ended, is_role, leads_to, request_of}
 use Rattle.voy_meta.specs.declared.state.MetaState.{MetaState}
 use Rattle.voy_meta.specs.declared.state.SegmentState.{SegmentState}
 

@@ -104,9 +104,23 @@ after_record state entry = record {
 -- what no records come to
 abbrev pub empty_state : MetaState
 empty_state = record {
-  version = 0; tables = 0; snapshots = []; segments = []; last_source = None; last_target = None; ended_source = false;
-  ended_target = false; request_target = None; request_source = None; channels_target = None; channels_source = None;
-  finished_target = None; finished_source = None; done_target = false; done_source = false; loaded = false;
+  version = 0;
+  tables = 0;
+  snapshots = [];
+  segments = [];
+  last_source = None;
+  last_target = None;
+  ended_source = false;
+  ended_target = false;
+  request_target = None;
+  request_source = None;
+  channels_target = None;
+  channels_source = None;
+  finished_target = None;
+  finished_source = None;
+  done_target = false;
+  done_source = false;
+  loaded = false;
 }
 
 -- what a state comes to with these records more

@@ -1,12 +1,15 @@
 //! What a move has done so far, as records in a journal; the state that they come to, and its stage.
 #![tactic(auto)]
 
+mod allowed;
 mod error;
 mod limits;
 mod meta;
 mod record;
+mod sides;
 mod stage;
 mod state;
+mod taking;
 
 pub use error::{MetaError, RequestError};
 pub use limits::{
@@ -14,5 +17,6 @@ pub use limits::{
 };
 pub use meta::Meta;
 pub use record::MetaRecord;
+pub use sides::{feeding, led_to};
 pub use stage::{Stage, StageWhy};
-pub use state::{MetaState, SegmentState, SnapshotState, Segments, Snapshots};
+pub use state::{MetaState, SegmentState, Segments, SnapshotState, Snapshots};

@@ -6,7 +6,9 @@ use voy_tables::{Role, Side, Spot};
 #[derive(Clone, Copy, Debug, PartialEq, Eq)]
 pub enum MetaRecord {
     /// By which rules the records are kept: 1 or 2.
-    Version { version: u8 },
+    Version {
+        version: u8,
+    },
     /// The snapshot of this table, one of so many, is whole: its file has so many bytes and rows.
     Snapshot {
         table: u32,
@@ -28,13 +30,24 @@ pub enum MetaRecord {
         ended: bool,
     },
     /// A cutover to this side was asked for, with or without a fall-back.
-    Request { side: Side, fall_back: bool },
+    Request {
+        side: Side,
+        fall_back: bool,
+    },
     /// The store of this side is filled by so many channels.
-    Channels { side: Side, count: u32 },
+    Channels {
+        side: Side,
+        count: u32,
+    },
     /// All changes of this segment are in the store of this side.
-    Finished { side: Side, segment: u32 },
+    Finished {
+        side: Side,
+        segment: u32,
+    },
     /// The cutover to this side is done.
-    Done { side: Side },
+    Done {
+        side: Side,
+    },
     /// The source's store is loaded.
     Loaded,
 }

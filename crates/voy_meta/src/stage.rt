@@ -1,3 +1,8 @@
+ghost use Rattle.std.specs.Prelude.{◌≡◌};
+ghost use Rattle.voy_meta.specs.Stages.{request_refusal, stage_of};
+
+use crate::sides::says_fall_back;
+use crate::state::MetaState;
 use voy_tables::Side;
 
 /// How far the move has come: the last stage that was reached.
@@ -30,4 +35,40 @@ pub enum StageWhy {
     NoFallBack,
     /// The source's store is not loaded.
     NotLoaded,
+}
+
+impl MetaState {
+    /// How far the move has come.
+    #[tactic(auto, unfolding(crate::specs::Stages::stage_of))]
+    pub fn stage(&self) -> Stage
+        ensures { result ≡ stage_of self.now }
+    {
+        if self.done_source {
+            Stage::SourceDone
+        } else if self.ended_target {
+            Stage::SourceEnded
+        } else if self.done_target {
+            Stage::TargetDone
+        } else if self.ended_source {
+            Stage::TargetEnded
+        } else if self.has_snapshot() {
+            Stage::Changes
+        } else {
+            Stage::Snapshot
+        }
+    }
+
+    /// Why a cutover to this side may not be asked for, the first reason that holds.
+    #[tactic(auto, unfolding(crate::specs::Stages::request_refusal))]
+    pub fn request_refusal(&self, side: Side) -> Option<StageWhy>
+        ensures { result ≡ request_refusal side self.now }
+    {
+        match side {
+            Side::Target if !self.has_snapshot() => Some(StageWhy::SnapshotMissing),
+            Side::Source if !self.done_target => Some(StageWhy::TargetNotDone),
+            Side::Source if !says_fall_back(self.request_target) => Some(StageWhy::NoFallBack),
+            _ if self.request(side).is_some() => Some(StageWhy::Already { side }),
+            _ => None,
+        }
+    }
 }
