@@ -1,5 +1,5 @@
 -- The fields of a payload: what is read of one is what was written of it.
-use Rattle.std.proofs.Common.{◌≡◌, ℕ, suc, ◌+◌, ◌^◌, ◌<◌, ◌≤◌, ◌&&◌, Bool, true, false, cond, eqb, ltb, List, [], ◌∷◌, ◌++◌, length, get_or, take, drop, Option, Some, None, refl, sym, ap, subst, ◌∙◌, append_assoc, arith, inl, inr}
+use Rattle.std.proofs.Common.{◌≡◌, ◌⊎◌, ℕ, suc, ◌+◌, ◌^◌, ◌<◌, ◌≤◌, ◌&&◌, Bool, true, false, cond, eqb, ltb, List, [], ◌∷◌, ◌++◌, length, get_or, take, drop, Option, Some, None, refl, sym, ap, subst, ◌∙◌, append_assoc, arith, inl, inr}
 use Rattle.std.specs.Int.{Width, byte_len, from_be_bytes, to_be_bytes, w32, w64}
 use Rattle.std.proofs.lemmas.Bool.{and_parts, cases_lt, eqb-true, le-ltb, ltb-false}
 use Rattle.std.proofs.lemmas.List.{drop_at, get_or-drop, get_or-take, get_or_past, length-append, length-take, take-append-drop, take_at}
@@ -24,6 +24,10 @@ bind_some None f y e = absurd cc
 not_refused : {A : Type 0} (b : Bool) (x y : A) → cond b None (Some x) ≡ Some y → (b ≡ false) × (x ≡ y)
 not_refused true x y e = absurd cc
 not_refused false x y e = (refl, cc)
+
+-- what was read is one pair
+same_read : {A : Type 0} (x y : A × List ℕ) → Some x ≡ Some y → (x.0 ≡ y.0) × (x.1 ≡ y.1)
+same_read {A} x y same = let is : x ≡ y = cc in (ap (λ (p : A × List ℕ). p.0) is, ap (λ (p : A × List ℕ). p.1) is)
 
 -- ---- bytes
 
@@ -144,15 +148,15 @@ byte_field = record {
 } where
   parts : (bytes : List ℕ) (x : ℕ × List ℕ) → AreBytes bytes → byte_at bytes ≡ Some x → bytes ≡ x.0 ∷ x.1
   parts [] x are read = absurd cc
-  parts (byte ∷ bytes) (b, rest) are read = cc
+  parts (byte ∷ bytes) x are read = let same = same_read (byte, bytes) x read in rw (same.0, same.1) refl
 
   fit : (bytes : List ℕ) (x : ℕ × List ℕ) → AreBytes bytes → byte_at bytes ≡ Some x → AreBytes x.1
   fit [] x are read = absurd cc
-  fit (byte ∷ bytes) (b, rest) are read = let same : bytes ≡ rest = cc in subst AreBytes same (AreBytes-behind byte bytes are)
+  fit (byte ∷ bytes) x are read = let same = same_read (byte, bytes) x read in subst AreBytes same.1 (AreBytes-behind byte bytes are)
 
   range : (bytes : List ℕ) (x : ℕ × List ℕ) → AreBytes bytes → byte_at bytes ≡ Some x → x.0 < 256
   range [] x are read = absurd cc
-  range (byte ∷ bytes) (b, rest) are read = let same : byte ≡ b = cc in subst (λ n. n < 256) same (are 0)
+  range (byte ∷ bytes) x are read = let same = same_read (byte, bytes) x read in subst (λ (n : ℕ). n < 256) same.0 (are 0)
 
 -- a byte that says one of some values, each by a byte of its own
 said_field : {A : Type 0} (says : ℕ → Option A) (byte_for : A → ℕ) → ((byte : ℕ) (a : A) → says byte ≡ Some a → byte ≡ byte_for a)
@@ -166,18 +170,17 @@ said_field {A} says byte_for back again = record {
 } where
   parts : (bytes : List ℕ) (x : A × List ℕ) → AreBytes bytes → said_at says bytes ≡ Some x → bytes ≡ byte_for x.0 ∷ x.1
   parts [] x are read = absurd cc
-  parts (byte ∷ bytes) (a, rest) are read =
-      let said = bind_some (says byte) (λ a. Some (a, bytes)) (a, rest) read in
-      let same : said.0 ≡ a = cc in
-      let behind : bytes ≡ rest = cc in
-      rw (behind, back byte said.0 said.1, same) refl
+  parts (byte ∷ bytes) x are read =
+      let said = bind_some (says byte) (λ a. Some (a, bytes)) x read in
+      let same = same_read (said.0, bytes) x said.2 in
+      ap (λ n. n ∷ bytes) (back byte said.0 said.1) ∙ rw (same.0, same.1) refl
 
   fit : (bytes : List ℕ) (x : A × List ℕ) → AreBytes bytes → said_at says bytes ≡ Some x → AreBytes x.1
   fit [] x are read = absurd cc
-  fit (byte ∷ bytes) (a, rest) are read =
-      let said = bind_some (says byte) (λ a. Some (a, bytes)) (a, rest) read in
-      let behind : bytes ≡ rest = cc in
-      subst AreBytes behind (AreBytes-behind byte bytes are)
+  fit (byte ∷ bytes) x are read =
+      let said = bind_some (says byte) (λ a. Some (a, bytes)) x read in
+      let same = same_read (said.0, bytes) x said.2 in
+      subst AreBytes same.1 (AreBytes-behind byte bytes are)
 
 -- the first of two bytes that say something, or the second
 two_said : {A : Type 0} (first second byte : ℕ) (a b found : A)
@@ -250,7 +253,15 @@ place_said false commit seq place read = zeros (eqb commit 0 && eqb seq 0) refl 
 
 pub place_field : IsField place_at place_bytes IsPlace
 unfolding place_at
-place_field = record { parts = λ bytes x are read. (taken bytes x are read).0; fit = λ bytes x are read. (taken bytes x are read).1.0; range = λ bytes x are read. (taken bytes x are read).1.1; again = again } where
+place_field = record {
+  parts = λ bytes x are read. (taken bytes x are read).0;
+  fit = λ bytes x are read. (taken bytes x are read).1;
+  range = λ bytes x are read. (taken bytes x are read).2;
+  again = again;
+} where
+  some_pair : (x y : Option Spot × List ℕ) → Some x ≡ Some y → x ≡ y
+  some_pair x y same = cc
+
   taken : (bytes : List ℕ) (x : Option Spot × List ℕ) → AreBytes bytes → place_at bytes ≡ Some x
       → (bytes ≡ place_bytes x.0 ++ x.1) × AreBytes x.1 × IsPlace x.0
   taken bytes x are read =
@@ -258,7 +269,7 @@ place_field = record { parts = λ bytes x are read. (taken bytes x are read).0; 
       let commit = bind_some (long_at placed.0.1) (λ commit. long_at commit.1 >>= λ seq. place_of placed.0.0 commit.0 seq.0 >>= λ place. Some (place, seq.1)) x placed.2 in
       let seq = bind_some (long_at commit.0.1) (λ seq. place_of placed.0.0 commit.0.0 seq.0 >>= λ place. Some (place, seq.1)) x commit.2 in
       let place = bind_some (place_of placed.0.0 commit.0.0 seq.0.0) (λ place. Some (place, seq.0.1)) x seq.2 in
-      let same : (place.0, seq.0.1) ≡ x = cc in
+      let same : (place.0, seq.0.1) ≡ x = some_pair (place.0, seq.0.1) x place.2 in
       let fit_1 = truth_field.fit bytes placed.0 are placed.1 in
       let fit_2 = long_field.fit placed.0.1 commit.0 fit_1 commit.1 in
       let fit_3 = long_field.fit commit.0.1 seq.0 fit_2 seq.1 in

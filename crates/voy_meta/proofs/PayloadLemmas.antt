@@ -53,7 +53,7 @@ snapshot_taken fields entry are read =
     took long_field rest are (λ rows. whole (Snapshot table of size rows.0) rows.1)
     entry read (λ b. 2 ∷ (number table ++ (number of ++ (long size ++ b)))) (λ rows rest r4 are read.
     took_all (Snapshot table of size rows) rest entry read (λ b. 2 ∷ (number table ++ (number of ++ (long size ++ (long rows ++ b)))))
-    (ap (λ (t : List ℕ). 2 ∷ (number table ++ (number of ++ (long size ++ t)))) (sym (append-nil (long rows))), r1, r2, r3, r4)))))
+    (ap (λ (t : List ℕ). 2 ∷ (number table ++ (number of ++ (long size ++ t)))) (sym (append-nil (long rows))), (r1, r2, r3, r4))))))
 
 queue_taken : (fields : List ℕ) (entry : MetaRecord) → AreBytes fields → queue_of fields ≡ Some entry → Was entry (3 ∷ fields)
 unfolding queue_of payload_of
@@ -74,7 +74,7 @@ queue_taken fields entry are read =
     entry read (λ b. 3 ∷ (number segment ++ (long size ++ (long last_vsn ++ (role_byte role ∷ (place_bytes place ++ truth_byte closed ∷ b)))))) (λ ended rest r7 are read.
     took_all (Queue segment size last_vsn role place closed ended) rest entry read
     (λ b. 3 ∷ (number segment ++ (long size ++ (long last_vsn ++ (role_byte role ∷ (place_bytes place ++ truth_byte closed ∷ truth_byte ended ∷ b))))))
-    (refl, r1, r2, r3, r5))))))))
+    (refl, (r1, r2, r3, r5)))))))))
 
 request_taken : (fields : List ℕ) (entry : MetaRecord) → AreBytes fields → request_of fields ≡ Some entry → Was entry (4 ∷ fields)
 unfolding request_of payload_of
@@ -180,8 +180,8 @@ snapshot_again : (table of size rows : ℕ) → IsRecord (Snapshot table of size
     → snapshot_of (number table ++ (number of ++ (long size ++ long rows))) ≡ Some (Snapshot table of size rows)
 unfolding snapshot_of
 snapshot_again table of size rows fit =
-    rw (number_field.again table (number of ++ (long size ++ long rows)) fit.0, number_field.again of (long size ++ long rows) fit.1.0,
-    long_field.again size (long rows) fit.1.1.0, long_last rows fit.1.1.1) refl
+    rw (number_field.again table (number of ++ (long size ++ long rows)) fit.0, number_field.again of (long size ++ long rows) fit.1,
+    long_field.again size (long rows) fit.2, long_last rows fit.3) refl
 
 queue_again : (segment size last_vsn : ℕ) (role : Role) (place : Option Spot) (closed ended : Bool) → IsRecord (Queue segment size last_vsn role place closed ended)
     → queue_of (number segment ++ (long size ++ (long last_vsn ++ (role_byte role ∷ (place_bytes place ++ truth_byte closed ∷ truth_byte ended ∷ [])))))
@@ -191,10 +191,10 @@ queue_again segment size last_vsn role place closed ended fit =
     let ends = truth_byte closed ∷ truth_byte ended ∷ [] in
     rw (
       number_field.again segment (long size ++ (long last_vsn ++ (role_byte role ∷ (place_bytes place ++ ends)))) fit.0,
-      long_field.again size (long last_vsn ++ (role_byte role ∷ (place_bytes place ++ ends))) fit.1.0,
-      long_field.again last_vsn (role_byte role ∷ (place_bytes place ++ ends)) fit.1.1.0,
+      long_field.again size (long last_vsn ++ (role_byte role ∷ (place_bytes place ++ ends))) fit.1,
+      long_field.again last_vsn (role_byte role ∷ (place_bytes place ++ ends)) fit.2,
       role_field.again role (place_bytes place ++ ends) tt,
-      place_field.again place ends fit.1.1.1,
+      place_field.again place ends fit.3,
       truth_field.again closed (truth_byte ended ∷ []) tt,
       truth_field.again ended [] tt,
     ) refl

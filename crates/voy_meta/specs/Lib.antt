@@ -8,3 +8,5 @@ pub mod Stages
 pub mod Meta
 pub mod Stands
 pub mod Opening
+pub mod FoldLaws
+pub mod MetaLaws
