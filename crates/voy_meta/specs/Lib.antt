@@ -10,3 +10,4 @@ pub mod Stands
 pub mod Opening
 pub mod FoldLaws
 pub mod MetaLaws
+pub mod Laws

@@ -103,7 +103,7 @@ more_twice : (xs ys : List MetaRecord) (told : Option (List MetaRecord)) → mor
 more_twice xs ys None = refl
 more_twice xs ys (Some entries) = ap (λ (all : List MetaRecord). Some all) (append_assoc entries xs ys)
 
-no_more : (told : Option (List MetaRecord)) → more [] told ≡ told
+pub no_more : (told : Option (List MetaRecord)) → more [] told ≡ told
 no_more None = refl
 no_more (Some entries) = ap (λ (all : List MetaRecord). Some all) (append-nil entries)
 
