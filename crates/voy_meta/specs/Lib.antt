@@ -6,3 +6,4 @@ pub mod Allowed
 pub mod Stages
 pub mod Meta
 pub mod Stands
+pub mod StateLaws

@@ -3,6 +3,7 @@
 
 mod allowed;
 mod error;
+mod laws;
 mod limits;
 mod meta;
 mod record;
@@ -12,6 +13,7 @@ mod state;
 mod taking;
 
 pub use error::{MetaError, RequestError};
+pub use laws::{closed_stays, consistent, records_join, refusals_tell, stages_go_on};
 pub use limits::{
     MAX_CHANNELS, MAX_SEGMENT, MAX_SEGMENT_BYTES, MAX_SNAPSHOT_BYTES, MAX_VSN, OPEN_SEGMENT_BYTES,
 };

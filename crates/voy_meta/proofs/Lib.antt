@@ -1,0 +1,5 @@
+pub mod JoinLemmas
+pub mod PutLemmas
+pub mod QueueLemmas
+pub mod KeepsLemmas
+pub mod StageLemmas
