@@ -3,3 +3,6 @@ pub mod PutLemmas
 pub mod QueueLemmas
 pub mod KeepsLemmas
 pub mod StageLemmas
+pub mod FieldLemmas
+pub mod OpeningLemmas
+pub mod PayloadLemmas

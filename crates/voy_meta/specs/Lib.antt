@@ -1,5 +1,6 @@
 pub mod Records
 pub mod Reading
+pub mod PayloadLaws
 pub mod State
 pub mod Sides
 pub mod Allowed
@@ -7,3 +8,6 @@ pub mod Stages
 pub mod Meta
 pub mod Stands
 pub mod StateLaws
+pub mod Opening
+pub mod FoldLaws
+pub mod MetaLaws

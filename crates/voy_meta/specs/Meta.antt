@@ -1,10 +1,11 @@
 -- What contracts see of the metadata, and what they are on a disk.
-use Rattle.std.specs.Prelude.{◌≡◌, ◌≢◌, ◌⊎◌, ◌==◌, ℕ, Bool, true, List, [], ◌∷◌, ◌++◌, Option, Some, None, codes, list_map, if◌then◌else◌}
+use Rattle.std.specs.Prelude.{◌≡◌, ◌≢◌, ◌⊎◌, ◌==◌, ◌&&◌, ℕ, Bool, true, List, [], ◌∷◌, ◌++◌, Option, Some, None, codes, list_map, if◌then◌else◌}
 use Rattle.std.specs.Option.{option_and_then, option_map}
 use Rattle.voy_disk.specs.Files.{Files, IfTold}
 use Rattle.voy_disk.specs.Images.{Image, SameBut}
 use Rattle.voy_journal.specs.Grammar.{DamagedAt, HasPayloads}
-use Rattle.voy_journal.specs.Journal.{StandsOn, journal_name, known_payloads, payloads_in}
+use Rattle.voy_journal.specs.Journal.{StandsOn, journal_gate, journal_name, known_payloads, payloads_in}
+use Rattle.voy_journal.specs.Journal.{is_live as journal_live}
 use Rattle.voy_journal.specs.Refusals.{refused_gate}
 use Rattle.voy_meta.specs.Allowed.{are_allowed, is_allowed}
 use Rattle.voy_meta.specs.Reading.{record_reading}
@@ -25,20 +26,28 @@ meta_state meta = meta.state
 
 -- records may be put
 abbrev pub is_live : Meta → Bool
-is_live meta = meta.live
+is_live meta = meta.live && journal_live meta.journal
+
+-- the place of the closed gate of its journal
+abbrev pub meta_gate : Meta → ℕ
+meta_gate meta = journal_gate meta.journal
 
 -- the records of these payloads, in order, where each payload is one
 abbrev pub records_of : List (List ℕ) → Option (List MetaRecord)
 records_of [] = Some []
 records_of (payload ∷ payloads) = option_and_then (λ entry. option_map (λ entries. entry ∷ entries) (records_of payloads)) (record_reading payload)
 
+-- the same of payloads that are told
+abbrev pub records_told : Option (List (List ℕ)) → Option (List MetaRecord)
+records_told payloads = option_and_then records_of payloads
+
 -- the records of the metadata in an image of a disk, where they read as such
 abbrev pub records_in : Image → Option (List MetaRecord)
-records_in image = option_and_then records_of (payloads_in meta_name image)
+records_in image = records_told (payloads_in meta_name image)
 
 -- the records that a `Meta` knows of, over these files
 abbrev pub known_records : Meta → Option Files → Option (List MetaRecord)
-known_records meta files = option_and_then records_of (known_payloads meta.journal files)
+known_records meta files = records_told (known_payloads meta.journal files)
 
 -- records are kept by the rules of today
 abbrev pub opened : List MetaRecord → List MetaRecord
@@ -61,15 +70,19 @@ pub record ReadsAs (state : MetaState) (image : Image) : Type 0 where
   pub allowed : are_allowed entries ≡ true
   pub state_is : state ≡ state_of entries
 
--- what the metadata ask of the disk that they are lent: the journal still has just the records that they know, which come to their state
-pub record MetaStands (meta : Meta) (files : Option Files) : Type 0 where
+-- the journal still has just the records that the metadata know, which come to their state
+pub record RecordsStand (meta : Meta) (files : Option Files) : Type 0 where
   pub entries : List MetaRecord
   pub allowed : are_allowed entries ≡ true
   pub state_is : meta.state ≡ state_of entries
-  pub version : meta.state.version ≡ VERSION
   pub name : journal_name meta.journal ≡ meta_name
   pub journal : StandsOn meta.journal files
   pub known : IfTold files (λ fs. known_records meta (Some fs) ≡ Some entries)
+
+-- what the metadata ask of the disk that they are lent: their records stand there, by the rules of today
+pub record MetaStands (meta : Meta) (files : Option Files) : Type 0 where
+  pub records : RecordsStand meta files
+  pub version : meta.state.version ≡ VERSION
 
 -- what a state becomes with one payload more, where that is an allowed record
 abbrev pub if_allowed : MetaState → MetaRecord → Option MetaState
@@ -104,3 +117,16 @@ pub record OpensTo (bytes : List ℕ) (state : MetaState) : Type 0 where
   pub entries : List MetaRecord
   pub has : HasRecords entries bytes
   pub state_is : state ≡ state_of (opened entries)
+
+-- the records that the bytes open to
+pub record OpensWith (bytes : List ℕ) (known : Option (List MetaRecord)) : Type 0 where
+  pub entries : List MetaRecord
+  pub has : HasRecords entries bytes
+  pub known_is : known ≡ Some (opened entries)
+
+-- the bytes are a journal of the records that are known, and that come to this state
+pub record ReadsRecords (bytes : List ℕ) (state : MetaState) (known : Option (List MetaRecord)) : Type 0 where
+  pub entries : List MetaRecord
+  pub has : HasRecords entries bytes
+  pub state_is : state ≡ state_of entries
+  pub known_is : known ≡ Some entries

@@ -15,6 +15,11 @@ abbrev pub ◌>>=◌ : {A B : Type 0} → Option A → (A → Option B) → Opti
 (Some x) >>= f = f x
 None >>= f = None
 
+-- what was read, as `view` sees it, is what the reading gives
+abbrev pub Gives : {X Y : Type 0} → (X → Y) → Option X → Option Y → Type 0
+Gives view (Some x) reading = reading ≡ Some (view x)
+Gives view None reading = reading ≡ None
+
 -- a field, and what follows it
 abbrev pub Read : Type 0 → Type 0
 Read A = Option (A × List ℕ)

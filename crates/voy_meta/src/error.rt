@@ -24,3 +24,14 @@ pub enum RequestError {
     /// Memory was refused.
     NoMemory,
 }
+
+impl From<AllocError> for MetaError {
+    ghost use Rattle.std.specs.Prelude.{◌≡◌};
+    ghost use Rattle.voy_meta.specs.declared.error.MetaError.TheVariants.{NoMemory};
+
+    ghost from_gives = { λ _ error. error ≡ NoMemory };
+
+    fn from(_refused: AllocError) -> MetaError {
+        MetaError::NoMemory
+    }
+}

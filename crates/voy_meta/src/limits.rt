@@ -18,3 +18,9 @@ pub const MAX_CHANNELS: u32 = 512;
 
 /// The rules by which records are kept now.
 pub const VERSION: u8 = 2;
+
+/// The bytes in a payload of a number below 2 ^ 32.
+pub(crate) const NUMBER_BYTES: usize = 4;
+
+/// The bytes in a payload of any other number.
+pub(crate) const LONG_BYTES: usize = 8;
