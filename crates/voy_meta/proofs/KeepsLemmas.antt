@@ -35,7 +35,7 @@ each P source target role.Target = target
 versioned : (v : ℕ) → nat_lt 0 v ≡ true → v ≡ 0 → ⊥
 versioned v passes none = let above : 0 < v = ltb-true 0 v passes in omega arith
 
-none_is : {A : Type 0} (x : Option A) → is_none x ≡ true → x ≡ None
+pub none_is : {A : Type 0} (x : Option A) → is_none x ≡ true → x ≡ None
 none_is None passes = refl
 none_is (Some a) passes = absurd (false≢true passes)
 

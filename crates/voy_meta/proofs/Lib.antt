@@ -6,3 +6,4 @@ pub mod StageLemmas
 pub mod FieldLemmas
 pub mod OpeningLemmas
 pub mod PayloadLemmas
+pub mod GrowLemmas

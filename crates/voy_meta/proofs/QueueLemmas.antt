@@ -133,7 +133,7 @@ writes_back s passes =
     record { source = parts.0; back = parts.1; target = parts.2 }
 
 -- the last segment is of the exporter that writes, where it is open
-same_role : (s : MetaState) (n : ℕ) (last : SegmentState) (r : Role) → IsConsistent s → IsSegment s n last → last_segment s ≡ Some last → last.closed ≡ false
+pub same_role : (s : MetaState) (n : ℕ) (last : SegmentState) (r : Role) → IsConsistent s → IsSegment s n last → last_segment s ≡ Some last → last.closed ≡ false
     → writes s r ≡ true → last.role ≡ r
 same_role s n last r c there is unshut may = by last.role refl r may where
   by : (old : Role) → last.role ≡ old → (r : Role) → writes s r ≡ true → last.role ≡ r

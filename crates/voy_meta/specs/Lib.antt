@@ -11,3 +11,4 @@ pub mod StateLaws
 pub mod Opening
 pub mod FoldLaws
 pub mod MetaLaws
+pub mod Growing

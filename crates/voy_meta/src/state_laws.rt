@@ -1,3 +1,4 @@
+ghost use Rattle.voy_meta.specs.Growing.{GrowsByAll, GrowsByOne};
 ghost use Rattle.voy_meta.specs.StateLaws.{ClosedStays, ConsistencyIsKept, NoFallBackIsSaid, NotRefusedIsAllowed, OneMoreState, OneMoreTest, RecordsAreConsistent, StageIsTheLast, StageNeverFalls, StatesJoin, TestsJoin};
 
 /// Law: what allowed records come to is consistent, and each allowed record keeps it so.
@@ -30,4 +31,11 @@ pub fn refusals_tell()
 pub fn stages_go_on()
     ensures last { StageIsTheLast }
     ensures on { StageNeverFalls }
+{}
+
+/// Law: allowed records take nothing back: what is recorded, ended, asked for, counted, finished or done stays so, and
+/// places, vsns and an open segment only go up.
+pub fn states_grow()
+    ensures one { GrowsByOne }
+    ensures all { GrowsByAll }
 {}
