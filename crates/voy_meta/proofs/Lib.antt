@@ -1,6 +1,12 @@
 pub mod AddingLemmas
 pub mod FieldLemmas
+pub mod GrowLemmas
+pub mod JoinLemmas
+pub mod KeepsLemmas
 pub mod OpeningLemmas
 pub mod PayloadLemmas
+pub mod PutLemmas
+pub mod QueueLemmas
 pub mod RequestLemmas
+pub mod StageLemmas
 pub mod StandingLemmas

@@ -180,8 +180,12 @@ snapshot_again : (table of size rows : ℕ) → IsRecord (Snapshot table of size
     → snapshot_of (number table ++ (number of ++ (long size ++ long rows))) ≡ Some (Snapshot table of size rows)
 unfolding snapshot_of
 snapshot_again table of size rows fit =
-    rw (number_field.again table (number of ++ (long size ++ long rows)) fit.0, number_field.again of (long size ++ long rows) fit.1,
-    long_field.again size (long rows) fit.2, long_last rows fit.3) refl
+    rw (
+      number_field.again table (number of ++ (long size ++ long rows)) fit.0,
+      number_field.again of (long size ++ long rows) fit.1,
+      long_field.again size (long rows) fit.2,
+      long_last rows fit.3,
+    ) refl
 
 queue_again : (segment size last_vsn : ℕ) (role : Role) (place : Option Spot) (closed ended : Bool) → IsRecord (Queue segment size last_vsn role place closed ended)
     → queue_of (number segment ++ (long size ++ (long last_vsn ++ (role_byte role ∷ (place_bytes place ++ truth_byte closed ∷ truth_byte ended ∷ [])))))
@@ -236,14 +240,29 @@ pub payload_short : PayloadsAreShort
 unfolding payload_of
 payload_short (Version version) = omega arith
 payload_short (Snapshot table of size rows) =
-    omega (arith, length-append (number table) (number of ++ (long size ++ long rows)), length-append (number of) (long size ++ long rows),
-    length-append (long size) (long rows), number_length table, number_length of, long_length size, long_length rows)
+    omega (
+      arith,
+      length-append (number table) (number of ++ (long size ++ long rows)),
+      length-append (number of) (long size ++ long rows),
+      length-append (long size) (long rows),
+      number_length table,
+      number_length of,
+      long_length size,
+      long_length rows,
+    )
 payload_short (Queue segment size last_vsn role place closed ended) =
     let ends = truth_byte closed ∷ truth_byte ended ∷ [] in
-    omega (arith, length-append (number segment) (long size ++ (long last_vsn ++ (role_byte role ∷ (place_bytes place ++ ends)))),
-    length-append (long size) (long last_vsn ++ (role_byte role ∷ (place_bytes place ++ ends))),
-    length-append (long last_vsn) (role_byte role ∷ (place_bytes place ++ ends)), length-append (place_bytes place) ends,
-    number_length segment, long_length size, long_length last_vsn, place_length place)
+    omega (
+      arith,
+      length-append (number segment) (long size ++ (long last_vsn ++ (role_byte role ∷ (place_bytes place ++ ends)))),
+      length-append (long size) (long last_vsn ++ (role_byte role ∷ (place_bytes place ++ ends))),
+      length-append (long last_vsn) (role_byte role ∷ (place_bytes place ++ ends)),
+      length-append (place_bytes place) ends,
+      number_length segment,
+      long_length size,
+      long_length last_vsn,
+      place_length place,
+    )
 payload_short (Request side fall_back) = omega arith
 payload_short (Channels side count) = omega (arith, number_length count)
 payload_short (Finished side segment) = omega (arith, number_length segment)

@@ -7,7 +7,9 @@ pub mod Allowed
 pub mod Stages
 pub mod Meta
 pub mod Stands
+pub mod StateLaws
 pub mod Opening
 pub mod FoldLaws
 pub mod MetaLaws
 pub mod Laws
+pub mod Growing

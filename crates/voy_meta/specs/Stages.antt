@@ -1,5 +1,5 @@
 -- How far a state has come, and what its stage refuses.
-use Rattle.std.specs.Prelude.{Bool, not, List, [], ◌∷◌, Option, Some, None, is_some, if◌then◌else◌}
+use Rattle.std.specs.Prelude.{ℕ, Bool, true, not, List, [], ◌∷◌, Option, Some, None, is_some, if◌then◌else◌}
 use Rattle.voy_tables.specs.declared.change.Side.{Side}
 use Rattle.voy_tables.specs.declared.change.Side.TheVariants as side
 use Rattle.voy_meta.specs.Allowed.{has_snapshot, says_fall_back}
@@ -18,6 +18,24 @@ stage_of state =
     else if state.ended_source then TargetEnded
     else if has_snapshot state then Changes
     else Snapshot
+
+-- whether a stage is reached
+abbrev pub is_reached : Stage → MetaState → Bool
+is_reached Snapshot state = true
+is_reached Changes state = has_snapshot state
+is_reached TargetEnded state = state.ended_source
+is_reached TargetDone state = state.done_target
+is_reached SourceEnded state = state.ended_target
+is_reached SourceDone state = state.done_source
+
+-- the place of a stage in their order
+abbrev pub place_of : Stage → ℕ
+place_of Snapshot = 0
+place_of Changes = 1
+place_of TargetEnded = 2
+place_of TargetDone = 3
+place_of SourceEnded = 4
+place_of SourceDone = 5
 
 -- a reason to refuse, and whether it holds
 abbrev pub Reason : Type 0

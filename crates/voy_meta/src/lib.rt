@@ -14,6 +14,7 @@ mod record;
 mod sides;
 mod stage;
 mod state;
+mod state_laws;
 mod taking;
 mod writing;
 
@@ -28,4 +29,7 @@ pub use record::MetaRecord;
 pub use sides::{feeding, led_to};
 pub use stage::{Stage, StageWhy};
 pub use state::{MetaState, SegmentState, Segments, SnapshotState, Snapshots};
+pub use state_laws::{
+    closed_stays, consistent, records_join, refusals_tell, stages_go_on, states_grow,
+};
 pub use writing::payload_of;
