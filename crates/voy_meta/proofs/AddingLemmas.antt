@@ -1,16 +1,15 @@
 -- One payload more in the journal is one record more, also in each image.
-use Rattle.std.proofs.Common.{◌≡◌, ◌&&◌, ◌||◌, ℕ, zero, suc, Bool, true, false, eqb, List, [], ◌∷◌, ◌++◌, Option, Some, None, take, Result, Ok, Err, refl, sym, ap, ◌∙◌}
+use Rattle.std.proofs.Common.{◌≡◌, ◌&&◌, ◌||◌, ℕ, zero, suc, Bool, true, false, eqb, List, [], ◌∷◌, ◌++◌, Option, Some, take, Result, Ok, Err, refl, sym, ap, ◌∙◌}
 use Rattle.std.specs.Option.{option_map}
 use Rattle.std.specs.Prelude.{OnOk}
-use Rattle.voy_disk.specs.Calls.{Change, told, untold}
+use Rattle.voy_disk.specs.Calls.{Change}
 use Rattle.voy_disk.specs.ChangeLaws.{at_new}
-use Rattle.voy_disk.specs.Files.{Files, IfTold}
+use Rattle.voy_disk.specs.Files.{Files}
 use Rattle.voy_disk.specs.Frames.{KeepsOtherFiles}
 use Rattle.voy_disk.specs.Images.{Image}
 use Rattle.voy_disk.specs.StepLaws.{follows_weaker}
 use Rattle.voy_disk.specs.Steps.{Follows, LeavesPrefix}
-use Rattle.voy_journal.specs.Journal.{AddsPayloads, StandsOn, journal_name, known_payloads, payloads_in}
-use Rattle.voy_journal.specs.declared.state.Journal.{Journal}
+use Rattle.voy_journal.specs.Journal.{AddsPayloads, StandsOn, journal_name, payloads_in}
 use Rattle.voy_meta.specs.Allowed.{is_allowed, version_follows}
 use Rattle.voy_meta.specs.FoldLaws.{allowed_on, allowed_one, more, record_of_one, state_on, told_more}
 use Rattle.voy_meta.specs.Meta.{AddsRecords, MetaStands, RecordsStand, known_records, meta_name, records_of, records_told}

@@ -1,5 +1,5 @@
 -- A request that its stage does not refuse is allowed.
-use Rattle.std.proofs.Common.{◌≡◌, ◌&&◌, Bool, true, false, not, List, [], ◌∷◌, Option, Some, None, refl, ap, ◌∙◌}
+use Rattle.std.proofs.Common.{◌≡◌, Bool, true, false, not, List, [], ◌∷◌, Option, Some, None, refl}
 use Rattle.std.specs.Prelude.{is_none, is_some}
 use Rattle.voy_tables.specs.declared.change.Side.{Side}
 use Rattle.voy_tables.specs.declared.change.Side.TheVariants as side

@@ -1,8 +1,8 @@
 -- The opening of the metadata: what the journal has, and the version behind it.
-use Rattle.std.proofs.Common.{◌≡◌, ◌≢◌, ◌≤◌, ◌⊎◌, ◌&&◌, ◌||◌, ℕ, zero, suc, Bool, true, false, cond, eqb, ltb, List, [], ◌∷◌, ◌++◌, Option, Some, None, take, refl, sym, ap, ◌∙◌, arith, inl, inr, subst}
+use Rattle.std.proofs.Common.{◌≡◌, ◌≢◌, ◌≤◌, ◌&&◌, ◌||◌, ℕ, zero, suc, Bool, true, false, cond, eqb, ltb, List, [], ◌∷◌, ◌++◌, Option, Some, refl, sym, ap, ◌∙◌, arith, inl, inr, subst}
 use Rattle.std.proofs.lemmas.Bool.{and_parts, eqb-true, lt-ltb}
 use Rattle.std.specs.Option.{option_map}
-use Rattle.voy_disk.specs.Calls.{Change, told, untold}
+use Rattle.voy_disk.specs.Calls.{Change, told}
 use Rattle.voy_disk.specs.Files.{Files, IfTold, bytes_now}
 use Rattle.voy_disk.specs.Frames.{KeepsOtherFiles}
 use Rattle.voy_disk.specs.Images.{Image, ImagesOf}
@@ -13,7 +13,7 @@ use Rattle.voy_journal.specs.Journal.{KeepsPayloads, StandsOn, journal_name, kno
 use Rattle.voy_journal.specs.declared.state.Journal.{Journal}
 use Rattle.voy_meta.specs.Allowed.{allowed_after, is_allowed, version_follows}
 use Rattle.voy_meta.specs.FoldLaws.{more, state_on}
-use Rattle.voy_meta.specs.Meta.{AddsRecords, HasRecords, MetaStands, OpensRecords, OpensTo, OpensWith, ReadsRecords, RecordsStand, meta_name, opened, records_in, records_of, records_told}
+use Rattle.voy_meta.specs.Meta.{AddsRecords, OpensRecords, OpensTo, OpensWith, ReadsRecords, RecordsStand, meta_name, opened, records_in, records_told}
 use Rattle.voy_meta.specs.MetaLaws.{no_more, records_in_each}
 use Rattle.voy_meta.specs.Opening.{AreTaken}
 use Rattle.voy_meta.specs.State.{after_record, empty_state, state_after, state_of}
