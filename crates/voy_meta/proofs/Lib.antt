@@ -1,0 +1,12 @@
+pub mod AddingLemmas
+pub mod ExactLemmas
+pub mod FieldLemmas
+pub mod GrowLemmas
+pub mod JoinLemmas
+pub mod KeepsLemmas
+pub mod OpeningLemmas
+pub mod PayloadLemmas
+pub mod PutLemmas
+pub mod QueueLemmas
+pub mod StageLemmas
+pub mod StandingLemmas

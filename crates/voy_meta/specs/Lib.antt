@@ -1,0 +1,16 @@
+pub mod Records
+pub mod Reading
+pub mod PayloadLaws
+pub mod State
+pub mod Sides
+pub mod Allowed
+pub mod Stages
+pub mod Meta
+pub mod Exact
+pub mod Stands
+pub mod StateLaws
+pub mod Opening
+pub mod FoldLaws
+pub mod MetaLaws
+pub mod Laws
+pub mod Growing
