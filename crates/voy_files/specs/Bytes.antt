@@ -1,7 +1,7 @@
 -- What a reader of bytes has not given yet.
 use Rattle.std.specs.Prelude.{◌≡◌, ◌+◌, ◌-◌, ℕ, List, ◌++◌, length, take, drop, Option, Some}
 use Rattle.voy_disk.specs.Files.{Files, bytes_now}
-use Rattle.voy_files.specs.declared.byte_reader.ByteReader.{ByteReader}
+use Rattle.voy_files.specs.declared.piece.ByteReader.{ByteReader}
 
 -- a fact on the bytes that the file of this name reads, on a disk that tells its files
 abbrev pub OfBytes : Option Files → List ℕ → (List ℕ → Type 0) → Type 0

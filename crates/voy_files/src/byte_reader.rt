@@ -4,27 +4,10 @@ ghost use Rattle.voy_disk.specs.Faults.{HasCause};
 ghost use Rattle.voy_disk.specs.Files.{IfTold, bytes_now};
 ghost use Rattle.voy_files.specs.Bytes.{OfBytes, StandsAt, bytes_between, bytes_left, held, unread};
 
+use crate::limits::PIECE_BYTES;
+use crate::piece::ByteReader;
 use std::alloc::{AllocError, Global};
 use voy_disk::{Disk, DiskError, Name};
-
-/// How many bytes are read from a disk at a time.
-pub const PIECE_BYTES: usize = 65536;
-
-/// Takes the bytes of a file one after the other, of which it holds a piece of at most
-/// [`PIECE_BYTES`] at a time.
-///
-/// Each call is given the disk and the name of the file. The reader reads from the offset and up to the
-/// end that it was made with. After an error, and after a part or a number that was not whole, it is given up.
-#[derive(Debug, Drop)]
-pub struct ByteReader {
-    /// The place in the file of the next piece.
-    pub(crate) at: u64,
-    /// Bytes from here on are not read.
-    pub(crate) end: u64,
-    /// The bytes that were read last, of which those from `from` on were not taken yet.
-    pub(crate) piece: Vec<u8>,
-    pub(crate) from: usize,
-}
 
 impl ByteReader {
     /// A reader of the first `end` bytes of a file.
@@ -206,6 +189,14 @@ impl ByteReader {
         to.extend_from_slice(&held[..count])?;
         self.skip(count);
         Ok(())
+    }
+
+    /// The bytes that were read from the disk and not taken yet, from the next one on.
+    pub fn ahead(&self) -> &[u8]
+        ensures bytes { result.now ≡ held self.now }
+        ensures few { length result.now ≤ PIECE_BYTES }
+    {
+        self.piece.as_slice().get(self.from..).unwrap_or(&[])
     }
 
     /// The offset in the file of the next byte.

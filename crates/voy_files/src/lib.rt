@@ -11,9 +11,12 @@
 #![tactic(auto)]
 
 mod byte_reader;
+mod limits;
 mod line_reader;
+mod piece;
 mod whole;
 
-pub use byte_reader::{ByteReader, PIECE_BYTES};
+pub use limits::PIECE_BYTES;
 pub use line_reader::{Found, LineReader};
+pub use piece::ByteReader;
 pub use whole::read_file;

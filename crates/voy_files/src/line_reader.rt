@@ -1,6 +1,7 @@
 ghost use Rattle.std.specs.Prelude.{◌≡◌, ◌==◌, position};
 
-use crate::byte_reader::ByteReader;
+use crate::limits::PIECE_BYTES;
+use crate::piece::ByteReader;
 use std::alloc::{AllocError, Global};
 use voy_disk::{Disk, DiskError, Name};
 
@@ -100,6 +101,15 @@ impl LineReader {
         ensures { result ≡ has_line_feed self.now }
     {
         self.is_ended
+    }
+
+    /// The bytes that were read from the disk and not given yet, from where the next line begins. Between two calls of
+    /// `next` there are at most [`PIECE_BYTES`](crate::PIECE_BYTES) of them.
+    pub fn ahead(&self) -> &[u8]
+        ensures bytes { result.now ≡ held self.now }
+        ensures few { length result.now ≤ PIECE_BYTES }
+    {
+        self.bytes.ahead()
     }
 
     /// The offset in the file of the next line.

@@ -2,7 +2,8 @@ ghost use Rattle.std.specs.Prelude.{◌≡◌, IfOk, MatchOption, None, Some, is
 ghost use Rattle.voy_disk.specs.Faults.{HasCause};
 ghost use Rattle.voy_disk.specs.Files.{IfTold, bytes_now};
 
-use crate::byte_reader::{ByteReader, PIECE_BYTES};
+use crate::limits::PIECE_BYTES;
+use crate::piece::ByteReader;
 use std::alloc::Global;
 use voy_disk::{Disk, DiskError, Name};
 

@@ -2,7 +2,7 @@ use Rattle.std.proofs.Common.{arith, ◌∙◌, ◌++◌, ◌+◌, ap, sym, leng
 use Rattle.voy_disk.specs.Files.{bytes_now}
 use Rattle.voy_files.specs.Bytes.{held}
 use Rattle.voy_files.proofs.Pieces.{moved_before}
-use Rattle.voy_files.proofs.byte_reader.ByteReader.take.Goals as goal
+use Rattle.voy_files.proofs.piece.ByteReader.take.Goals as goal
 
 pub loop-self-preserved : goal.loop-self-preserved
 loop-self-preserved g c =

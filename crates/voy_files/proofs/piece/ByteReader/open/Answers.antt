@@ -1,7 +1,7 @@
 use Rattle.std.proofs.Common.{◌∙◌, ap, is_some, sym}
 use Rattle.voy_disk.specs.Files.{bytes_now}
 use Rattle.voy_files.proofs.Lengths.{no_file, some_file, whole_bytes}
-use Rattle.voy_files.proofs.byte_reader.ByteReader.open.Goals as goal
+use Rattle.voy_files.proofs.piece.ByteReader.open.Goals as goal
 
 pub returns-in_default-clause-absent : goal.returns-in_default-clause-absent
 returns-in_default-clause-absent g c = λ fs is. no_file (fs c.args.name.now) ((rw c.in_default.is at c.in_ok-end.ensures.length) fs is)

@@ -1,5 +1,5 @@
 use Rattle.std.proofs.Common.{◌+◌, arith, length-drop}
-use Rattle.voy_files.proofs.byte_reader.ByteReader.take_byte.Goals as goal
+use Rattle.voy_files.proofs.piece.ByteReader.take_byte.Goals as goal
 
 pub returns-clause-stands : goal.returns-clause-stands
 returns-clause-stands g c = λ offset stands.

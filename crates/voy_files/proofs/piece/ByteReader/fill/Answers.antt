@@ -1,7 +1,7 @@
 use Rattle.std.proofs.Common.{arith, ◌∙◌, sym, drop, take}
 use Rattle.voy_disk.specs.Files.{bytes_now}
 use Rattle.voy_files.proofs.Pieces.{cut_behind, piece_and_rest, used_up}
-use Rattle.voy_files.proofs.byte_reader.ByteReader.fill.Goals as goal
+use Rattle.voy_files.proofs.piece.ByteReader.fill.Goals as goal
 
 pub returns-clause-unread : goal.returns-clause-unread
 returns-clause-unread g c = λ fs is.

@@ -1,6 +1,6 @@
 use Rattle.std.proofs.Common.{ℕ, ◌≡◌, ◌-◌, ◌+◌, ◌≤◌, ◌++◌, vec_len}
 use Rattle.voy_files.specs.Bytes.{OfBytes, StandsAt, bytes_left, unread}
-use Rattle.voy_files.proofs.byte_reader.ByteReader.take.Given as goal
+use Rattle.voy_files.proofs.piece.ByteReader.take.Given as goal
 
 abbrev pub invariant-loop-self : goal.invariant-loop-self
 invariant-loop-self g l = record {

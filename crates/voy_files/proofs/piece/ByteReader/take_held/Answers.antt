@@ -1,7 +1,7 @@
 use Rattle.std.proofs.Common.{ap, take}
 use Rattle.voy_files.specs.Bytes.{held}
 use Rattle.voy_files.proofs.Pieces.{moved}
-use Rattle.voy_files.proofs.byte_reader.ByteReader.take_held.Goals as goal
+use Rattle.voy_files.proofs.piece.ByteReader.take_held.Goals as goal
 
 pub returns-clause-moves : goal.returns-clause-moves
 returns-clause-moves c =

@@ -1,5 +1,5 @@
 use Rattle.std.proofs.Common.{◌+◌, arith}
-use Rattle.voy_files.proofs.byte_reader.ByteReader.take_number.Goals as goal
+use Rattle.voy_files.proofs.piece.ByteReader.take_number.Goals as goal
 
 pub returns-clause-stands : goal.returns-clause-stands
 returns-clause-stands g c = λ offset stands.
