@@ -1,16 +1,18 @@
 -- Payloads taken one after the other, and the first that is not.
-use Rattle.std.proofs.Common.{◌≡◌, ◌≢◌, ◌+◌, ◌<◌, ◌≤◌, ◌^◌, ◌&&◌, ℕ, zero, suc, Bool, true, false, cond, List, [], ◌∷◌, ◌++◌, Option, Some, None, drop, get_or, length, length-append, map, take, refl, sym, ap, ◌∙◌, arith}
+use Rattle.std.proofs.Common.{◌≡◌, ◌+◌, ◌<◌, ◌^◌, ℕ, Bool, true, false, cond, List, [], ◌∷◌, Option, Some, None, drop, get_or, length, length-append, map, refl, sym, ap, ◌∙◌, arith, inl, inr}
+use Rattle.std.proofs.lemmas.Bool.{and_parts}
 use Rattle.std.proofs.lemmas.List.{drop_more}
 use Rattle.std.proofs.lemmas.Option.{none-some}
 use Rattle.std.specs.Global.{Vec}
 use Rattle.std.specs.Option.{option_and_then, option_map}
-use Rattle.voy_journal.specs.Grammar.{entries}
-use Rattle.voy_journal.specs.RefusalLaws.{refused_behind, refused_here}
-use Rattle.voy_journal.specs.Refusals.{knows_after, refused_from}
+use Rattle.voy_journal.specs.Grammar.{DamagedAt, HasPayloads, entries, gate_of, payloads_of}
+use Rattle.voy_journal.specs.RefusalLaws.{refused_behind, refused_here, taken_whole}
+use Rattle.voy_journal.specs.Refusals.{first_refused, knows_after, refused_from}
 use Rattle.voy_meta.specs.Allowed.{allowed_after, is_allowed}
+use Rattle.voy_meta.specs.Laws.{RecordsAreWhole}
 use Rattle.voy_meta.specs.Meta.{if_allowed, records_of, state_with}
 use Rattle.voy_meta.specs.Reading.{record_reading}
-use Rattle.voy_meta.specs.State.{after_record, state_after}
+use Rattle.voy_meta.specs.State.{after_record, empty_state, state_after}
 use Rattle.voy_meta.specs.declared.record.MetaRecord.{MetaRecord}
 use Rattle.voy_meta.specs.declared.state.MetaState.{MetaState}
 
@@ -70,6 +72,42 @@ are_records (payload ∷ payloads) state known is = by (are_records payloads) (r
       → AreRecords state (payload ∷ payloads) known
   by behind None read found = absurd (none-some known found)
   by behind (Some entry) read found = tested behind entry read (is_allowed state entry) refl found
+
+some_records : {x y : List MetaRecord} → Some x ≡ Some y → x ≡ y
+some_records {x} {y} same = cc
+
+-- payloads that read as allowed records are all taken
+records_taken : (payloads : List (List ℕ)) (state : MetaState) (records : List MetaRecord) → records_of payloads ≡ Some records
+    → allowed_after state records ≡ true → knows_after state_with state payloads ≡ Some (state_after state records)
+records_taken [] state records read allowed = ap (λ (rs : List MetaRecord). Some (state_after state rs)) (some_records read)
+records_taken (payload ∷ payloads) state records read allowed = by (records_taken payloads) (record_reading payload) refl (records_of payloads) refl read where
+  by : ((next : MetaState) (rest : List MetaRecord) → records_of payloads ≡ Some rest → allowed_after next rest ≡ true
+      → knows_after state_with next payloads ≡ Some (state_after next rest))
+      → (found : Option MetaRecord) → record_reading payload ≡ found → (behind : Option (List MetaRecord)) → records_of payloads ≡ behind
+      → option_and_then (λ (e : MetaRecord). option_map (λ (es : List MetaRecord). e ∷ es) behind) found ≡ Some records
+      → knows_after state_with state (payload ∷ payloads) ≡ Some (state_after state records)
+  by further None f behind b same = absurd (none-some records same)
+  by further (Some entry) f None b same = absurd (none-some records same)
+  by further (Some entry) f (Some rest) b same =
+      let is : entry ∷ rest ≡ records = some_records same in
+      let parts = and_parts (is_allowed state entry) (allowed_after (after_record state entry) rest) (ap (allowed_after state) is ∙ allowed) in
+      ap (option_and_then (λ (next : MetaState). knows_after state_with next payloads)) (taken_with state payload entry f parts.0)
+      ∙ further (after_record state entry) rest b parts.1 ∙ ap (λ (rs : List MetaRecord). Some (state_after state rs)) is
+
+-- so bytes that are a journal of them are not damaged
+pub records_are_whole : ((payloads : List (List ℕ)) (bytes : List ℕ) → HasPayloads payloads bytes → payloads_of bytes ≡ Some payloads)
+    → ((offset : ℕ) (bytes : List ℕ) → DamagedAt offset bytes → payloads_of bytes ≡ None) → RecordsAreWhole
+records_are_whole one_list none_damaged records bytes offset has (inl damaged) =
+    none-some has.payloads (sym (none_damaged offset bytes damaged) ∙ one_list has.payloads bytes has.has)
+records_are_whole one_list none_damaged records bytes offset has (inr bad) =
+    let same : has.payloads ≡ bad.payloads = some_payloads (sym (one_list has.payloads bytes has.has) ∙ one_list bad.payloads bytes bad.has) in
+    let taken : knows_after state_with empty_state bad.payloads ≡ Some (state_after empty_state records) =
+    ap (knows_after state_with empty_state) (sym same) ∙ records_taken has.payloads empty_state records has.read has.allowed in
+    let none : first_refused state_with empty_state bad.payloads ≡ None = taken_whole state_with bad.payloads empty_state _ taken in
+    none-some offset (sym (ap (option_map (gate_of bad.payloads)) none) ∙ bad.bad)
+  where
+    some_payloads : {x y : List (List ℕ)} → Some x ≡ Some y → x ≡ y
+    some_payloads {x} {y} same = cc
 
 -- ---- one turn of the loop over payloads
 

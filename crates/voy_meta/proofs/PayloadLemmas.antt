@@ -1,12 +1,12 @@
 -- A payload reads as its record, and bytes that read as a record are its payload.
-use Rattle.std.proofs.Common.{◌≡◌, ℕ, suc, ◌+◌, ◌^◌, ◌<◌, ◌≤◌, Bool, true, false, cond, eqb, List, [], ◌∷◌, ◌++◌, length, Option, Some, None, refl, sym, ap, subst, ◌∙◌, arith}
+use Rattle.std.proofs.Common.{◌≡◌, ℕ, ◌^◌, ◌<◌, Bool, true, false, cond, eqb, List, [], ◌∷◌, ◌++◌, length, Option, Some, None, refl, sym, ap, subst, ◌∙◌, arith}
 use Rattle.std.proofs.lemmas.Bool.{eqb-true}
 use Rattle.std.proofs.lemmas.List.{append-nil, length-append}
 use Rattle.voy_tables.specs.declared.change.Role.{Role}
 use Rattle.voy_tables.specs.declared.change.Side.{Side}
 use Rattle.voy_tables.specs.declared.change.Spot.{Spot}
 use Rattle.voy_meta.specs.PayloadLaws.{IsRecord, PayloadsAreShort}
-use Rattle.voy_meta.specs.Reading.{◌>>=◌, Read, byte_at, channels_of, done_of, finished_of, long_at, number_at, place_at, queue_of, record_reading, request_of, role_of, said_at, side_of, snapshot_of, truth_of, version_of, whole}
+use Rattle.voy_meta.specs.Reading.{◌>>=◌, Read, byte_at, channels_of, done_of, finished_of, long_at, number_at, place_at, queue_of, record_reading, request_of, role_of, said_at, snapshot_of, truth_of, version_of, whole}
 use Rattle.voy_meta.specs.Records.{long, number, payload_of, place_bytes, role_byte, side_byte, truth_byte}
 use Rattle.voy_meta.specs.declared.record.MetaRecord.{MetaRecord}
 use Rattle.voy_meta.specs.declared.record.MetaRecord.TheVariants.{Version, Snapshot, Queue, Request, Channels, Finished, Done, Loaded}

@@ -1,12 +1,12 @@
 -- Records behind records: what they read as, whether they are allowed, and what they come to.
-use Rattle.std.specs.Prelude.{◌≡◌, ◌≤◌, ◌&&◌, ℕ, Bool, true, false, List, [], ◌∷◌, ◌++◌, Option, Some, None}
-use Rattle.std.proofs.Common.{refl, sym, ap, ◌∙◌, arith}
+use Rattle.std.specs.Prelude.{◌≡◌, ℕ, true, List, [], ◌∷◌, ◌++◌, Option, Some, None}
+use Rattle.std.proofs.Common.{refl, ap, ◌∙◌}
 use Rattle.std.proofs.lemmas.Bool.{and_parts}
 use Rattle.std.specs.Option.{option_and_then, option_map}
-use Rattle.voy_meta.specs.Allowed.{allowed_after, are_allowed, is_allowed}
+use Rattle.voy_meta.specs.Allowed.{allowed_after, is_allowed}
 use Rattle.voy_meta.specs.Meta.{records_of, records_told}
 use Rattle.voy_meta.specs.Reading.{record_reading}
-use Rattle.voy_meta.specs.State.{after_record, empty_state, state_after, state_of}
+use Rattle.voy_meta.specs.State.{after_record, state_after}
 use Rattle.voy_meta.specs.declared.record.MetaRecord.{MetaRecord}
 use Rattle.voy_meta.specs.declared.state.MetaState.{MetaState}
 

@@ -11,4 +11,5 @@ pub mod StateLaws
 pub mod Opening
 pub mod FoldLaws
 pub mod MetaLaws
+pub mod Laws
 pub mod Growing

@@ -1,19 +1,18 @@
 -- Laws of the records on a disk: in its images, and beside what other calls do.
-use Rattle.std.specs.Prelude.{◌≡◌, ◌≢◌, ℕ, true, List, [], ◌∷◌, ◌++◌, Option, Some, None}
+use Rattle.std.specs.Prelude.{◌≡◌, ◌≢◌, ℕ, true, List, [], ◌++◌, Option, Some, None}
 use Rattle.std.proofs.Common.{refl, sym, ap, ◌∙◌}
 use Rattle.std.proofs.lemmas.List.{append-nil, append_assoc}
-use Rattle.std.specs.Option.{option_map}
 use Rattle.voy_disk.specs.Calls.{Change}
 use Rattle.voy_disk.specs.ChangeLaws.{at_new}
 use Rattle.voy_disk.specs.Files.{Files, IfTold, told_of}
-use Rattle.voy_disk.specs.Frames.{KeepsBeside, KeepsOtherFiles, OneName, OneOf}
-use Rattle.voy_disk.specs.Images.{Image, ImagesOf, SameBut}
+use Rattle.voy_disk.specs.Frames.{KeepsBeside, KeepsOtherFiles, OneName}
+use Rattle.voy_disk.specs.Images.{Image, ImagesOf}
 use Rattle.voy_disk.specs.PrefixLaws.{leaves_on}
 use Rattle.voy_disk.specs.StepLaws.{follows_on}
 use Rattle.voy_disk.specs.Steps.{Every, Follows, LeavesPrefix}
-use Rattle.voy_journal.specs.Journal.{Stands, known_payloads, payloads_before, payloads_in}
+use Rattle.voy_journal.specs.Journal.{Stands, payloads_before, payloads_in}
 use Rattle.voy_journal.specs.JournalLaws.{known_beside, stands_in_every, stands_known, still_stands}
-use Rattle.voy_meta.specs.Allowed.{allowed_after, are_allowed}
+use Rattle.voy_meta.specs.Allowed.{allowed_after}
 use Rattle.voy_meta.specs.FoldLaws.{allowed_on, more, state_on}
 use Rattle.voy_meta.specs.Meta.{AddsRecords, MetaStands, ReadsAs, RecordsStand, known_records, meta_name, records_in, records_told}
 use Rattle.voy_meta.specs.State.{empty_state, state_after, state_of}
@@ -103,7 +102,7 @@ more_twice : (xs ys : List MetaRecord) (told : Option (List MetaRecord)) → mor
 more_twice xs ys None = refl
 more_twice xs ys (Some entries) = ap (λ (all : List MetaRecord). Some all) (append_assoc entries xs ys)
 
-no_more : (told : Option (List MetaRecord)) → more [] told ≡ told
+pub no_more : (told : Option (List MetaRecord)) → more [] told ≡ told
 no_more None = refl
 no_more (Some entries) = ap (λ (all : List MetaRecord). Some all) (append-nil entries)
 

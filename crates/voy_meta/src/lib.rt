@@ -19,7 +19,7 @@ mod taking;
 mod writing;
 
 pub use error::{MetaError, RequestError};
-pub use laws::records_read_back;
+pub use laws::{metadata_stand, records_read_back};
 pub use limits::{
     MAX_CHANNELS, MAX_SEGMENT, MAX_SEGMENT_BYTES, MAX_SNAPSHOT_BYTES, MAX_VSN, OPEN_SEGMENT_BYTES,
 };

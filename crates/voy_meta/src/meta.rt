@@ -162,8 +162,9 @@ impl Meta {
         // when a fault comes
         ensures cause { HasCause RequestError.Fault (D.faults disk.old) (D.faults disk.new) result }
     {
-        if let Some(why) = self.state.request_refusal(side) {
-            return Err(RequestError::Refused(why));
+        match self.state.request_refusal(side) {
+            Some(why) => return Err(RequestError::Refused(why)),
+            None => {}
         }
         match self.put(disk, MetaRecord::Request { side, fall_back }) {
             Ok(()) => Ok(()),
@@ -194,7 +195,7 @@ impl Meta {
         ensures never_damaged { IfErr result (λ error. (offset : _) → error ≢ MetaError.Damaged offset) }
     {
         self.live = false;
-        append_record(self.alloc, &mut self.journal, disk, &entry)?;
+        append_record(self.alloc, &mut self.journal, disk, entry)?;
         self.state.take(&entry)?;
         self.live = true;
         Ok(())

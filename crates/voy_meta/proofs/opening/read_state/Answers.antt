@@ -1,5 +1,6 @@
-use Rattle.std.proofs.Common.{◌≡◌, ◌+◌, ◌∙◌, Some, arith, length, sym}
+use Rattle.std.proofs.Common.{◌≡◌, ◌+◌, ◌∙◌, Bool, Some, ap, arith, length, sym}
 use Rattle.voy_meta.specs.Meta.{state_with}
+use Rattle.voy_meta.specs.Opening.{if_taken}
 use Rattle.voy_meta.proofs.OpeningLemmas.{gate_below, known_more, place_more, rest_more}
 use Rattle.voy_meta.proofs.opening.read_state.Goals as goal
 
@@ -22,7 +23,9 @@ loop-payload-preserved c =
     let new = c.take_payload.new.state in
     let offset = c.loop-payload.offset in
     let next = offset + (5 + c.len.result) in
-    let taken : state_with old payload.items ≡ Some new = ? in
+    let answered : state_with old c.deref.result.now ≡ if_taken c.in_ok-take_payload.field-0 new = c.in_ok-take_payload.ensures in
+    let taken : state_with old payload.items ≡ Some new =
+    ap (state_with old) (sym c.deref.ensures.value) ∙ answered ∙ ap (λ (b : Bool). if_taken b new) c.if-not-branch.false in
     let moved : next ≡ offset + (5 + length payload.items) = omega (arith, c.len.ensures, payload.ok.0) in
     record {
       known = known_more all i payload within is old new _ taken before.known;

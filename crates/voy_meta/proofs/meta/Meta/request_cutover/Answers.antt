@@ -1,0 +1,12 @@
+use Rattle.std.proofs.Common.{◌∙◌, sym}
+use Rattle.voy_disk.specs.ChangeLaws.{others_still}
+use Rattle.voy_meta.specs.Meta.{meta_name}
+use Rattle.voy_meta.proofs.RequestLemmas.{request_allowed}
+use Rattle.voy_meta.proofs.meta.Meta.request_cutover.Goals as goal
+
+pub returns-in-Some-clause-others : goal.returns-in-Some-clause-others
+returns-in-Some-clause-others g c = others_still meta_name (g.D.Disk.files c.args.disk.now)
+
+pub put-requires-clause-allowed : goal.put-requires-clause-allowed
+put-requires-clause-allowed g c =
+    request_allowed c.args.side c.args.fall_back c.args.self.now.state (sym c.request_refusal.ensures ∙ c.in-None.is) c.requires.stands.version c.requires.source
