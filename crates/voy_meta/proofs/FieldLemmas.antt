@@ -274,12 +274,14 @@ place_field = record {
       let fit_2 = long_field.fit placed.0.1 commit.0 fit_1 commit.1 in
       let fit_3 = long_field.fit commit.0.1 seq.0 fit_2 seq.1 in
       let said = place_said placed.0.0 commit.0.0 seq.0.0 place.0 place.1 in
-      let text : bytes ≡ place_bytes place.0 ++ seq.0.1 =
-      truth_field.parts bytes placed.0 are placed.1
-      ∙ ap (λ (t : List ℕ). truth_byte placed.0.0 ∷ t) (long_field.parts placed.0.1 commit.0 fit_1 commit.1
-      ∙ ap (λ (t : List ℕ). long commit.0.0 ++ t) (long_field.parts commit.0.1 seq.0 fit_2 seq.1)
-      ∙ sym (append_assoc (long commit.0.0) (long seq.0.0) seq.0.1))
-      ∙ ap (λ (t : List ℕ). t ++ seq.0.1) said.text in
+      let numbers : List ℕ = long commit.0.0 ++ long seq.0.0 in
+      let second : placed.0.1 ≡ long commit.0.0 ++ commit.0.1 = long_field.parts placed.0.1 commit.0 fit_1 commit.1 in
+      let third : commit.0.1 ≡ long seq.0.0 ++ seq.0.1 = long_field.parts commit.0.1 seq.0 fit_2 seq.1 in
+      let joined : placed.0.1 ≡ numbers ++ seq.0.1 =
+      second ∙ ap (λ (t : List ℕ). long commit.0.0 ++ t) third ∙ sym (append_assoc (long commit.0.0) (long seq.0.0) seq.0.1) in
+      let first : bytes ≡ truth_byte placed.0.0 ∷ placed.0.1 = truth_field.parts bytes placed.0 are placed.1 in
+      let whole : bytes ≡ (truth_byte placed.0.0 ∷ numbers) ++ seq.0.1 = first ∙ ap (λ (t : List ℕ). truth_byte placed.0.0 ∷ t) joined in
+      let text : bytes ≡ place_bytes place.0 ++ seq.0.1 = whole ∙ ap (λ (t : List ℕ). t ++ seq.0.1) said.text in
       let range = said.range (long_field.range placed.0.1 commit.0 fit_1 commit.1) (long_field.range commit.0.1 seq.0 fit_2 seq.1) in
       subst (λ (p : Option Spot × List ℕ). (bytes ≡ place_bytes p.0 ++ p.1) × AreBytes p.1 × IsPlace p.0) same (text, fit_3, range)
 

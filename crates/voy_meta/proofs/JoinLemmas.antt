@@ -2,6 +2,7 @@
 use Rattle.std.proofs.Common.{◌≡◌, Bool, true, false, [], ◌∷◌, refl, ap, ◌∙◌}
 use Rattle.std.specs.Prelude.{◌&&◌}
 use Rattle.voy_meta.specs.Allowed.{allowed_after, is_allowed}
+use Rattle.voy_meta.specs.FoldLaws.{state_on}
 use Rattle.voy_meta.specs.State.{after_record, empty_state, state_after, state_of}
 use Rattle.voy_meta.specs.StateLaws.{OneMoreState, OneMoreTest, StatesJoin, TestsJoin}
 
@@ -14,8 +15,7 @@ and_true true = refl
 and_true false = refl
 
 pub states_join : StatesJoin
-states_join state [] behind = refl
-states_join state (entry ∷ before) behind = states_join (after_record state entry) before behind
+states_join = state_on
 
 pub tests_join : TestsJoin
 tests_join state [] behind = refl

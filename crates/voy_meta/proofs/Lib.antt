@@ -1,4 +1,5 @@
 pub mod AddingLemmas
+pub mod ExactLemmas
 pub mod FieldLemmas
 pub mod GrowLemmas
 pub mod JoinLemmas
@@ -7,6 +8,5 @@ pub mod OpeningLemmas
 pub mod PayloadLemmas
 pub mod PutLemmas
 pub mod QueueLemmas
-pub mod RequestLemmas
 pub mod StageLemmas
 pub mod StandingLemmas

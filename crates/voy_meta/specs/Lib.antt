@@ -6,6 +6,7 @@ pub mod Sides
 pub mod Allowed
 pub mod Stages
 pub mod Meta
+pub mod Exact
 pub mod Stands
 pub mod StateLaws
 pub mod Opening

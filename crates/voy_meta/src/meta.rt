@@ -6,9 +6,10 @@ ghost use Rattle.voy_disk.specs.Files.{IfTold, bytes_now};
 ghost use Rattle.voy_disk.specs.Frames.{KeepsOtherFiles};
 ghost use Rattle.voy_disk.specs.Images.{ImagesOf};
 ghost use Rattle.voy_disk.specs.Steps.{DoesAll, Follows, LeavesPrefix, StaysTold};
-ghost use Rattle.voy_journal.specs.Exact.{AppendsEntry};
+ghost use Rattle.voy_journal.specs.Exact.{AppendsEntry, OpensFile};
 ghost use Rattle.voy_journal.specs.Journal.{KeepsPayloads};
 ghost use Rattle.voy_meta.specs.Allowed.{is_allowed};
+ghost use Rattle.voy_meta.specs.Exact.{OpensMeta};
 ghost use Rattle.voy_meta.specs.Meta.{AddsRecords, IsMetaDamaged, MetaStands, OpensRecords, OpensTo, OpensWith, ReadsRecords, RecordsStand, is_live, known_records, meta_gate, meta_name, meta_state};
 ghost use Rattle.voy_meta.specs.Records.{payload_of};
 ghost use Rattle.voy_meta.specs.Stages.{request_refusal, stage_of};
@@ -50,6 +51,8 @@ impl Meta {
         ensures records { IfOk result (λ meta. IfTold (D.files disk.old) (λ fs. OpensWith (bytes_now (fs meta_name)) (known_records meta (D.files disk.new)))) }
         ensures stands { IfOk result (λ meta. MetaStands meta (D.files disk.new)) }
         ensures live { IfOk result (λ meta. IsTrue (is_live meta)) }
+        // the bytes are those of the journal that was opened, and of the version that was put behind them
+        ensures exact { OnOk result (Change OpensMeta (D.files disk.old) (D.files disk.new)) }
         // whatever it answers
         ensures images { Follows OpensRecords (ImagesOf (D.files disk.old)) (ImagesOf (D.files disk.new)) }
         ensures others { Change (KeepsOtherFiles meta_name) (D.files disk.old) (D.files disk.new) }
@@ -207,6 +210,7 @@ fn open_recorded<D: Disk>(alloc: Global, disk: &mut D) -> Result<Meta, MetaError
     ensures has { IfOk result (λ meta. IfTold (D.files disk.old) (λ fs. ReadsRecords (bytes_now (fs meta_name)) (meta_state meta) (known_records meta (D.files disk.new)))) }
     ensures stands { IfOk result (λ meta. RecordsStand meta (D.files disk.new)) }
     ensures live { IfOk result (λ meta. IsTrue (is_live meta)) }
+    ensures exact { OnOk result (Change (OpensFile meta_name) (D.files disk.old) (D.files disk.new)) }
     ensures images { Follows (KeepsPayloads meta_name) (ImagesOf (D.files disk.old)) (ImagesOf (D.files disk.new)) }
     ensures others { Change (KeepsOtherFiles meta_name) (D.files disk.old) (D.files disk.new) }
     ensures told { StaysTold (ImagesOf (D.files disk.old)) (ImagesOf (D.files disk.new)) }

@@ -1,6 +1,13 @@
 //! The tests that are code of a move's metadata, over the public calls of the libraries.
 //!
 //! A case that is data (what is given, and what is wanted of it) stands in the program `voy_move_cases`. Here stand the
-//! tests which can not be data: what an outage leaves at each call of a disk, and laws called once. They stand in a crate
-//! of their own since a library with a test is proved twice.
+//! tests which can not be data: what an outage or a fault leaves at each call of a disk, many segments, and laws called
+//! once. They stand in a crate of their own since a library with a test is proved twice.
 #![tactic(auto)]
+
+#[cfg(test)]
+mod laws;
+#[cfg(test)]
+mod metadata;
+#[cfg(test)]
+mod outages;

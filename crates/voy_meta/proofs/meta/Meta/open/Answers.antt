@@ -1,4 +1,5 @@
 use Rattle.voy_disk.specs.ChangeLaws.{others_on}
+use Rattle.voy_meta.proofs.ExactLemmas.{opens_same, opens_with_version}
 use Rattle.voy_meta.proofs.StandingLemmas.{opens_more, version_may_follow, version_put}
 use Rattle.voy_meta.proofs.meta.Meta.open.Goals as goal
 
@@ -24,3 +25,12 @@ returns-clause-images g c =
 
 pub returns-clause-others : goal.returns-clause-others
 returns-clause-others g c = others_on c.open_recorded.ensures.others c.add.ensures.others
+
+pub returns-clause-exact : goal.returns-clause-exact
+returns-clause-exact g c =
+    opens_with_version c.in_ok-meta.meta _ c.in_ok-meta.ensures.has c.if-meta-eq-VERSION.false c.in_ok-meta.ensures.stands.name
+    c.in_ok-meta.ensures.stands.journal c.in_ok-meta.ensures.exact c.in_ok-add.ensures.exact
+
+pub returns-then-meta-eq-VERSION-clause-exact : goal.returns-then-meta-eq-VERSION-clause-exact
+returns-then-meta-eq-VERSION-clause-exact g c =
+    opens_same c.in_ok-meta.meta.state _ c.in_ok-meta.ensures.has c.if-meta-eq-VERSION.true c.in_ok-meta.ensures.exact

@@ -1,7 +1,8 @@
-use Rattle.std.proofs.Common.{◌∙◌, sym}
+use Rattle.std.proofs.Common.{◌∙◌, ap, arith, sym}
+use Rattle.std.specs.Prelude.{is_none}
 use Rattle.voy_disk.specs.ChangeLaws.{others_still}
 use Rattle.voy_meta.specs.Meta.{meta_name}
-use Rattle.voy_meta.proofs.RequestLemmas.{request_allowed}
+use Rattle.voy_meta.proofs.StageLemmas.{not_refused_is_allowed}
 use Rattle.voy_meta.proofs.meta.Meta.request_cutover.Goals as goal
 
 pub returns-in-Some-clause-others : goal.returns-in-Some-clause-others
@@ -9,4 +10,5 @@ returns-in-Some-clause-others g c = others_still meta_name (g.D.Disk.files c.arg
 
 pub put-requires-clause-allowed : goal.put-requires-clause-allowed
 put-requires-clause-allowed g c =
-    request_allowed c.args.side c.args.fall_back c.args.self.now.state (sym c.request_refusal.ensures ∙ c.in-None.is) c.requires.stands.version c.requires.source
+    not_refused_is_allowed c.args.self.now.state c.args.side c.args.fall_back (omega (arith, c.requires.stands.version)) c.requires.source
+    ∙ ap is_none (sym c.request_refusal.ensures ∙ c.in-None.is)
