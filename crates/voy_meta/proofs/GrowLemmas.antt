@@ -8,7 +8,7 @@ use Rattle.voy_tables.specs.declared.change.Role.TheVariants as role
 use Rattle.voy_tables.specs.declared.change.Side.{Side}
 use Rattle.voy_tables.specs.declared.change.Side.TheVariants as side
 use Rattle.voy_tables.specs.declared.change.Spot.{Spot}
-use Rattle.voy_meta.specs.Allowed.{allowed_after, channels_follow, finished_follows, has_fall_back, has_snapshot, is_allowed, is_closed_of, is_next_finished, is_up_to, may_be_filled, queue_follows, request_follows, snapshot_follows, spot_follows, vsn_before}
+use Rattle.voy_meta.specs.Allowed.{allowed_after, channels_follow, finished_follows, has_fall_back, has_snapshot, is_allowed, is_closed_of, is_next_finished, is_up_to, may_be_filled, request_follows, snapshot_follows, spot_follows, vsn_before}
 use Rattle.voy_meta.specs.Growing.{Grows, GrowsByAll, GrowsByOne, IsLonger}
 use Rattle.voy_meta.specs.Sides.{channels_of, feeds, finished_of, is_done, is_ended, last_of, last_segment, request_of}
 use Rattle.voy_meta.specs.Stands.{IsConsistent, IsSegment}
@@ -19,9 +19,9 @@ use Rattle.voy_meta.specs.declared.record.MetaRecord.TheVariants.{Version, Snaps
 use Rattle.voy_meta.specs.declared.state.MetaState.{MetaState}
 use Rattle.voy_meta.specs.declared.state.SegmentState.{SegmentState}
 use Rattle.voy_meta.specs.declared.state.SnapshotState.{SnapshotState}
-use Rattle.voy_meta.proofs.KeepsLemmas.{closed_stays, consistency_is_kept, none_is, not_all, not_true, next_snapshot}
+use Rattle.voy_meta.proofs.KeepsLemmas.{closed_stays, consistency_is_kept, put_by, none_is, not_all, not_true, next_snapshot}
 use Rattle.voy_meta.proofs.PutLemmas.{length_put, put_front, put_there, within_from}
-use Rattle.voy_meta.proofs.QueueLemmas.{GoesOn, IsNext, IsPut, put, put_is, put_within, same_role, writes_back}
+use Rattle.voy_meta.proofs.QueueLemmas.{GoesOn, IsNext, IsPut, put, put_within, same_role, writes_back}
 
 -- the record that an allowed one follows the version by
 behind : (s : MetaState) (test : Bool) → (nat_lt 0 s.version && test) ≡ true → test ≡ true
@@ -87,11 +87,6 @@ put_rises s segment new spot q =
     let long : length (put s segment new) ≡ suc segment = length_put s.segments segment new within in
     let at : segment ≡ length (put s segment new) - 1 = omega arith in
     subst (λ (y : Option SegmentState). vsn_before (last_segment s) ≤ vsn_before y) (sym (put_there s.segments segment new within) ∙ ap (slice_get (put s segment new)) at) q.rises
-
-put_by : (s : MetaState) (segment bytes last_vsn : ℕ) (r : Role) (spot : Option Spot) (closed ended : Bool) → (nat_lt 0 s.version && queue_follows s segment bytes last_vsn r spot closed ended) ≡ true
-    → IsPut s segment (record { bytes = bytes; last_vsn = last_vsn; role = r; closed = closed; ended = ended }) spot
-put_by s segment bytes last_vsn r spot closed ended passes =
-    put_is s segment (record { bytes = bytes; last_vsn = last_vsn; role = r; closed = closed; ended = ended }) spot (behind s (queue_follows s segment bytes last_vsn r spot closed ended) passes)
 
 segments_grow : (s : MetaState) (e : MetaRecord) → IsConsistent s → is_allowed s e ≡ true
     → (n : ℕ) (x : SegmentState) → IsSegment s n x → (t : SegmentState) × IsSegment (after_record s e) n t × IsLonger x t
