@@ -299,12 +299,16 @@ longer_on x y z p q = record {
   role = p.role ∙ q.role;
 }
 
+-- all snapshots still stand
+pub all_still : (a b : MetaState) → Grows a b → has_snapshot a ≡ true → has_snapshot b ≡ true
+all_still a b g is = (λ i. nat_lt 0 ((g.all is).0 i) && (length ((g.all is).1 i) == (g.all is).0 i)) ∙ is
+
 -- what grows and grows on grows
 grows_on : (a b c : MetaState) → Grows a b → Grows b c → Grows a c
 grows_on a b c g h = record {
   version = (let first : a.version ≤ b.version = g.version in let second : b.version ≤ c.version = h.version in omega arith);
   snapshots = λ n x found. h.snapshots n x (g.snapshots n x found);
-  all = λ is. ((h.all (still is)).0 ∙ (g.all is).0, (h.all (still is)).1 ∙ (g.all is).1);
+  all = λ is. ((h.all (all_still a b g is)).0 ∙ (g.all is).0, (h.all (all_still a b g is)).1 ∙ (g.all is).1);
   closed = λ n x there shut. h.closed n x (g.closed n x there shut) shut;
   segments = λ n x there. (let one = g.segments n x there in let two = h.segments n one.0 one.1 in (two.0, two.1, longer_on x one.0 two.0 one.2 two.2));
   last_vsn = (let first : vsn_before (last_segment a) ≤ vsn_before (last_segment b) = g.last_vsn in let second : vsn_before (last_segment b) ≤ vsn_before (last_segment c) = h.last_vsn in omega arith);
@@ -316,9 +320,6 @@ grows_on a b c g h = record {
   done = λ to is. h.done to (g.done to is);
   loaded = λ is. h.loaded (g.loaded is);
 }
-  where
-    still : has_snapshot a ≡ true → has_snapshot b ≡ true
-    still is = (λ i. nat_lt 0 ((g.all is).0 i) && (length ((g.all is).1 i) == (g.all is).0 i)) ∙ is
 
 pub grows_by_all : GrowsByAll
 grows_by_all s [] c passes = as_before s
