@@ -8,7 +8,7 @@ use Rattle.voy_tables.specs.declared.change.Role.TheVariants as role
 use Rattle.voy_tables.specs.declared.change.Side.{Side}
 use Rattle.voy_tables.specs.declared.change.Side.TheVariants as side
 use Rattle.voy_tables.specs.declared.change.Spot.{Spot}
-use Rattle.voy_meta.specs.Allowed.{allowed_after, channels_follow, finished_follows, has_fall_back, has_snapshot, is_allowed, is_closed_of, is_next_finished, is_up_to, may_be_filled, queue_follows, request_follows, snapshot_follows, spot_follows, vsn_before}
+use Rattle.voy_meta.specs.Allowed.{allowed_after, channels_follow, finished_follows, has_fall_back, has_snapshot, is_allowed, is_closed_of, is_next_finished, is_up_to, may_be_filled, request_follows, snapshot_follows, spot_follows, vsn_before}
 use Rattle.voy_meta.specs.Growing.{Grows, GrowsByAll, GrowsByOne, IsLonger}
 use Rattle.voy_meta.specs.Sides.{channels_of, feeds, finished_of, is_done, is_ended, last_of, last_segment, request_of}
 use Rattle.voy_meta.specs.Stands.{IsConsistent, IsSegment}
@@ -19,9 +19,9 @@ use Rattle.voy_meta.specs.declared.record.MetaRecord.TheVariants.{Version, Snaps
 use Rattle.voy_meta.specs.declared.state.MetaState.{MetaState}
 use Rattle.voy_meta.specs.declared.state.SegmentState.{SegmentState}
 use Rattle.voy_meta.specs.declared.state.SnapshotState.{SnapshotState}
-use Rattle.voy_meta.proofs.KeepsLemmas.{closed_stays, consistency_is_kept, none_is, not_all, not_true, next_snapshot}
+use Rattle.voy_meta.proofs.KeepsLemmas.{closed_stays, consistency_is_kept, put_by, none_is, not_all, not_true, next_snapshot}
 use Rattle.voy_meta.proofs.PutLemmas.{length_put, put_front, put_there, within_from}
-use Rattle.voy_meta.proofs.QueueLemmas.{GoesOn, IsNext, IsPut, put, put_is, put_within, same_role, writes_back}
+use Rattle.voy_meta.proofs.QueueLemmas.{GoesOn, IsNext, IsPut, put, put_within, same_role, writes_back}
 
 -- the record that an allowed one follows the version by
 behind : (s : MetaState) (test : Bool) → (nat_lt 0 s.version && test) ≡ true → test ≡ true
@@ -87,11 +87,6 @@ put_rises s segment new spot q =
     let long : length (put s segment new) ≡ suc segment = length_put s.segments segment new within in
     let at : segment ≡ length (put s segment new) - 1 = omega arith in
     subst (λ (y : Option SegmentState). vsn_before (last_segment s) ≤ vsn_before y) (sym (put_there s.segments segment new within) ∙ ap (slice_get (put s segment new)) at) q.rises
-
-put_by : (s : MetaState) (segment bytes last_vsn : ℕ) (r : Role) (spot : Option Spot) (closed ended : Bool) → (nat_lt 0 s.version && queue_follows s segment bytes last_vsn r spot closed ended) ≡ true
-    → IsPut s segment (record { bytes = bytes; last_vsn = last_vsn; role = r; closed = closed; ended = ended }) spot
-put_by s segment bytes last_vsn r spot closed ended passes =
-    put_is s segment (record { bytes = bytes; last_vsn = last_vsn; role = r; closed = closed; ended = ended }) spot (behind s (queue_follows s segment bytes last_vsn r spot closed ended) passes)
 
 segments_grow : (s : MetaState) (e : MetaRecord) → IsConsistent s → is_allowed s e ≡ true
     → (n : ℕ) (x : SegmentState) → IsSegment s n x → (t : SegmentState) × IsSegment (after_record s e) n t × IsLonger x t
@@ -304,12 +299,16 @@ longer_on x y z p q = record {
   role = p.role ∙ q.role;
 }
 
+-- all snapshots still stand
+pub all_still : (a b : MetaState) → Grows a b → has_snapshot a ≡ true → has_snapshot b ≡ true
+all_still a b g is = (λ i. nat_lt 0 ((g.all is).0 i) && (length ((g.all is).1 i) == (g.all is).0 i)) ∙ is
+
 -- what grows and grows on grows
 grows_on : (a b c : MetaState) → Grows a b → Grows b c → Grows a c
 grows_on a b c g h = record {
   version = (let first : a.version ≤ b.version = g.version in let second : b.version ≤ c.version = h.version in omega arith);
   snapshots = λ n x found. h.snapshots n x (g.snapshots n x found);
-  all = λ is. ((h.all (still is)).0 ∙ (g.all is).0, (h.all (still is)).1 ∙ (g.all is).1);
+  all = λ is. ((h.all (all_still a b g is)).0 ∙ (g.all is).0, (h.all (all_still a b g is)).1 ∙ (g.all is).1);
   closed = λ n x there shut. h.closed n x (g.closed n x there shut) shut;
   segments = λ n x there. (let one = g.segments n x there in let two = h.segments n one.0 one.1 in (two.0, two.1, longer_on x one.0 two.0 one.2 two.2));
   last_vsn = (let first : vsn_before (last_segment a) ≤ vsn_before (last_segment b) = g.last_vsn in let second : vsn_before (last_segment b) ≤ vsn_before (last_segment c) = h.last_vsn in omega arith);
@@ -321,9 +320,6 @@ grows_on a b c g h = record {
   done = λ to is. h.done to (g.done to is);
   loaded = λ is. h.loaded (g.loaded is);
 }
-  where
-    still : has_snapshot a ≡ true → has_snapshot b ≡ true
-    still is = (λ i. nat_lt 0 ((g.all is).0 i) && (length ((g.all is).1 i) == (g.all is).0 i)) ∙ is
 
 pub grows_by_all : GrowsByAll
 grows_by_all s [] c passes = as_before s

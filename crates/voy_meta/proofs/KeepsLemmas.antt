@@ -1,7 +1,8 @@
--- Each allowed record keeps a state consistent, kind by kind.
+-- Each allowed record keeps a state consistent, field by field: first the kinds that touch the field, then all others.
 use Rattle.std.proofs.Common.{◌≡◌, ◌≢◌, ◌-◌, ◌<◌, ◌≤◌, ◌⊎◌, inl, inr, ℕ, suc, Bool, true, false, List, [], ◌∷◌, ◌++◌, Option, Some, None, length, refl, sym, ap, ◌∙◌, subst, arith}
 use Rattle.std.proofs.lemmas.Bool.{and_parts, eqb-true, false≢true, leb-true, ltb-true, or_cases, or_left}
 use Rattle.std.proofs.lemmas.Option.{none-some, same_Some}
+use Rattle.std.specs.List.{list_any}
 use Rattle.std.specs.Prelude.{◌&&◌, ◌||◌, ◌==◌, is_none, is_some, nat_le, nat_lt, not, slice_get}
 use Rattle.voy_schema.specs.declared.limits.TheConstants.{MAX_TABLES}
 use Rattle.voy_tables.specs.declared.change.Role.{Role}
@@ -9,28 +10,19 @@ use Rattle.voy_tables.specs.declared.change.Role.TheVariants as role
 use Rattle.voy_tables.specs.declared.change.Side.{Side}
 use Rattle.voy_tables.specs.declared.change.Side.TheVariants as side
 use Rattle.voy_tables.specs.declared.change.Spot.{Spot}
-use Rattle.voy_meta.specs.Allowed.{allowed_after, channels_follow, finished_follows, has_fall_back, has_snapshot, is_allowed, is_closed_of, is_next_finished, may_be_filled, queue_follows, request_follows, says_fall_back, snapshot_follows}
-use Rattle.voy_meta.specs.Sides.{channels_of, feeds, finished_of, is_role}
-use Rattle.voy_meta.specs.Stands.{IsConsistent, IsLawful, IsSegment, IsSized}
+use Rattle.voy_meta.specs.Allowed.{allowed_after, channels_follow, finished_follows, follows_version, has_fall_back, has_snapshot, is_allowed, is_closed_of, is_next_finished, may_be_filled, queue_follows, request_follows, says_fall_back, snapshot_follows, version_follows, writes}
+use Rattle.voy_meta.specs.Sides.{channels_of, feeds, finished_of, is_done, is_ended, is_role, last_segment, leads_to, request_of}
+use Rattle.voy_meta.specs.Stands.{IsConsistent, IsInTurn, IsLawful, IsSegment, IsSized, ends_part}
 use Rattle.voy_meta.specs.State.{after_record, empty_state, state_after}
 use Rattle.voy_meta.specs.StateLaws.{ClosedStays, ConsistencyIsKept, RecordsAreConsistent}
-use Rattle.voy_meta.specs.declared.limits.TheConstants.{MAX_CHANNELS, MAX_SNAPSHOT_BYTES}
+use Rattle.voy_meta.specs.declared.limits.TheConstants.{MAX_CHANNELS, MAX_SEGMENT, MAX_SNAPSHOT_BYTES, VERSION}
 use Rattle.voy_meta.specs.declared.record.MetaRecord.{MetaRecord}
 use Rattle.voy_meta.specs.declared.record.MetaRecord.TheVariants.{Version, Snapshot, Queue, Request, Channels, Finished, Done, Loaded}
 use Rattle.voy_meta.specs.declared.state.MetaState.{MetaState}
 use Rattle.voy_meta.specs.declared.state.SegmentState.{SegmentState}
 use Rattle.voy_meta.specs.declared.state.SnapshotState.{SnapshotState}
 use Rattle.voy_meta.proofs.PutLemmas.{get_more, length_more, length_put}
-use Rattle.voy_meta.proofs.QueueLemmas.{IsPut, WritesBack, put, put_closed, put_each, put_ends, put_first, put_in_turn, put_is, put_last, put_lawful, put_within, writes_back}
-
--- what holds of both sides, and of both exporters
-both : (P : Side → Type 0) → P side.Target → P side.Source → (to : Side) → P to
-both P target source side.Target = target
-both P target source side.Source = source
-
-each : (P : Role → Type 0) → P role.Source → P role.Target → (r : Role) → P r
-each P source target role.Source = source
-each P source target role.Target = target
+use Rattle.voy_meta.proofs.QueueLemmas.{IsPut, put, put_closed, put_each, put_ends, put_first, put_in_turn, put_is, put_last, put_lawful, put_within, writes_back}
 
 versioned : (v : ℕ) → nat_lt 0 v ≡ true → v ≡ 0 → ⊥
 versioned v passes none = let above : 0 < v = ltb-true 0 v passes in omega arith
@@ -59,46 +51,18 @@ and_false : (a : Bool) → (a && false) ≡ false
 and_false true = refl
 and_false false = refl
 
+apart : role.Source ≡ role.Target → ⊥
+apart is = cc
+
 role_is : (a b : Role) → is_role a b ≡ true → a ≡ b
 role_is role.Source role.Source passes = refl
 role_is role.Target role.Target passes = refl
 role_is role.Source role.Target passes = absurd (false≢true passes)
 role_is role.Target role.Source passes = absurd (false≢true passes)
 
-version_keeps : (s : MetaState) (v : ℕ) → IsConsistent s → is_allowed s (Version v) ≡ true → IsConsistent (after_record s (Version v))
-unfolding after_record is_allowed
-version_keeps s v c passes = record {
-  version = elim ranges [ inl one ↦ omega arith | inr two ↦ omega arith ];
-  bare = λ none. absurd (elim ranges [ inl one ↦ omega arith | inr two ↦ omega arith ]);
-  tables = c.tables;
-  counted = c.counted;
-  some = c.some;
-  sized = c.sized;
-  exported = c.exported;
-  requested = c.requested;
-  filled = c.filled;
-  numbered = c.numbered;
-  lawful = c.lawful;
-  in_turn = c.in_turn;
-  first = c.first;
-  falls_back = c.falls_back;
-  ends = each _ (c.ends role.Source) (c.ends role.Target);
-  last_ends = each _ (c.last_ends role.Source) (c.last_ends role.Target);
-  asked = each _ (c.asked role.Source) (c.asked role.Target);
-  ended_back = c.ended_back;
-  counts = both _ (c.counts side.Target) (c.counts side.Source);
-  finished = both _ (c.finished side.Target) (c.finished side.Source);
-  done = both _ (c.done side.Target) (c.done side.Source);
-  loaded = c.loaded;
-  source_filled = c.source_filled;
-  source_asked = c.source_asked;
-}
-  where
-    ranges : (v ≡ 1) ⊎ (v ≡ 2)
-    ranges = elim (or_cases ((v == 1) && (s.version == 0)) ((v == 2) && nat_lt s.version 2) passes) [
-      | inl first ↦ inl (eqb-true v 1 (and_parts (v == 1) (s.version == 0) first).0)
-      | inr second ↦ inr (eqb-true v 2 (and_parts (v == 2) (nat_lt s.version 2) second).0)
-    ]
+-- behind a version a record is tested by its own rule
+behind : (s : MetaState) (test : Bool) → (nat_lt 0 s.version && test) ≡ true → test ≡ true
+behind s test passes = (and_parts (nat_lt 0 s.version) test passes).1
 
 -- what an allowed Snapshot record says
 pub record IsNextSnapshot (s : MetaState) (table of bytes rows : ℕ) : Type 0 where
@@ -146,122 +110,12 @@ not_all s table of bytes rows n all =
       parts : (nat_lt 0 s.tables ≡ true) × ((length s.snapshots == s.tables) ≡ true)
       parts = and_parts (nat_lt 0 s.tables) (length s.snapshots == s.tables) all
 
-snapshot_keeps : (s : MetaState) (table of bytes rows : ℕ) → IsConsistent s → is_allowed s (Snapshot table of bytes rows) ≡ true → IsConsistent (after_record s (Snapshot table of bytes rows))
-unfolding after_record is_allowed
-snapshot_keeps s table of bytes rows c passes = record {
-  version = c.version;
-  bare = λ none. absurd (versioned s.version parts.0 none);
-  tables = n.most;
-  counted = (let long : length (s.snapshots ++ one ∷ []) ≡ suc (length s.snapshots) = length_more s.snapshots one in let next : table ≡ length s.snapshots = n.next in let below : table < of = n.below in omega arith);
-  some = λ none. absurd (let long : length (s.snapshots ++ one ∷ []) ≡ suc (length s.snapshots) = length_more s.snapshots one in let empty : length (s.snapshots ++ one ∷ []) ≡ 0 = ap length none in omega arith);
-  sized = λ k x found. elim (get_more s.snapshots one k x found) [ inl old ↦ c.sized k x old | inr is ↦ subst IsSized is n.sized ];
-  exported = λ k x there. absurd (missing (c.exported k x there));
-  requested = λ b is. absurd (missing (c.requested b is));
-  filled = λ k is. absurd (missing (c.filled k is));
-  numbered = c.numbered;
-  lawful = c.lawful;
-  in_turn = c.in_turn;
-  first = c.first;
-  falls_back = c.falls_back;
-  ends = each _ (c.ends role.Source) (c.ends role.Target);
-  last_ends = each _ (c.last_ends role.Source) (c.last_ends role.Target);
-  asked = each _ (c.asked role.Source) (c.asked role.Target);
-  ended_back = c.ended_back;
-  counts = both _ (c.counts side.Target) (c.counts side.Source);
-  finished = both _ (c.finished side.Target) (c.finished side.Source);
-  done = both _ (c.done side.Target) (c.done side.Source);
-  loaded = c.loaded;
-  source_filled = c.source_filled;
-  source_asked = c.source_asked;
-}
-  where
-    one : SnapshotState
-    one = record { bytes = bytes; rows = rows }
+-- the same, from the test of the record
+more_snapshots : (s : MetaState) (table of bytes rows : ℕ) → (nat_lt 0 s.version && snapshot_follows s table of bytes rows) ≡ true → IsNextSnapshot s table of bytes rows
+more_snapshots s table of bytes rows passes = next_snapshot s table of bytes rows (behind s (snapshot_follows s table of bytes rows) passes)
 
-    parts : (nat_lt 0 s.version ≡ true) × (snapshot_follows s table of bytes rows ≡ true)
-    parts = and_parts (nat_lt 0 s.version) (snapshot_follows s table of bytes rows) passes
-
-    n : IsNextSnapshot s table of bytes rows
-    n = next_snapshot s table of bytes rows parts.1
-
-    missing : has_snapshot s ≡ true → ⊥
-    missing = not_all s table of bytes rows n
-
-request_target_keeps : (s : MetaState) (b : Bool) → IsConsistent s → is_allowed s (Request side.Target b) ≡ true → IsConsistent (after_record s (Request side.Target b))
-unfolding after_record is_allowed
-request_target_keeps s b c passes = record {
-  version = c.version;
-  bare = λ none. absurd (versioned s.version parts.0 none);
-  tables = c.tables;
-  counted = c.counted;
-  some = c.some;
-  sized = c.sized;
-  exported = c.exported;
-  requested = λ x is. follows.0;
-  filled = c.filled;
-  numbered = c.numbered;
-  lawful = c.lawful;
-  in_turn = c.in_turn;
-  first = c.first;
-  falls_back = λ n x there target. absurd (no_back (c.falls_back n x there target));
-  ends = each _ (c.ends role.Source) (c.ends role.Target);
-  last_ends = each _ (c.last_ends role.Source) (c.last_ends role.Target);
-  asked = each _ (λ ended is. none-some b (sym is)) (c.asked role.Target);
-  ended_back = λ ended. absurd (no_back (c.ended_back ended));
-  counts = both _ (c.counts side.Target) (c.counts side.Source);
-  finished = both _ (c.finished side.Target) (c.finished side.Source);
-  done = both _ (c.done side.Target) (c.done side.Source);
-  loaded = λ is. absurd (no_back (c.loaded is));
-  source_filled = c.source_filled;
-  source_asked = λ x is. absurd (no_back (c.source_asked x is).0);
-}
-  where
-    parts : (nat_lt 0 s.version ≡ true) × (request_follows s side.Target b ≡ true)
-    parts = and_parts (nat_lt 0 s.version) (request_follows s side.Target b) passes
-
-    follows : (has_snapshot s ≡ true) × (is_none s.request_target ≡ true)
-    follows = and_parts (has_snapshot s) (is_none s.request_target) parts.1
-
-    no_back : has_fall_back s ≡ true → ⊥
-    no_back back = false≢true (ap says_fall_back (sym (none_is s.request_target follows.1)) ∙ (and_parts s.done_target (says_fall_back s.request_target) back).1)
-
-request_source_keeps : (s : MetaState) (b : Bool) → IsConsistent s → is_allowed s (Request side.Source b) ≡ true → IsConsistent (after_record s (Request side.Source b))
-unfolding after_record is_allowed
-request_source_keeps s b c passes = record {
-  version = c.version;
-  bare = λ none. absurd (versioned s.version parts.0 none);
-  tables = c.tables;
-  counted = c.counted;
-  some = c.some;
-  sized = c.sized;
-  exported = c.exported;
-  requested = c.requested;
-  filled = c.filled;
-  numbered = c.numbered;
-  lawful = c.lawful;
-  in_turn = c.in_turn;
-  first = c.first;
-  falls_back = c.falls_back;
-  ends = each _ (c.ends role.Source) (c.ends role.Target);
-  last_ends = each _ (c.last_ends role.Source) (c.last_ends role.Target);
-  asked = each _ (c.asked role.Source) (λ ended is. none-some b (sym is));
-  ended_back = c.ended_back;
-  counts = both _ (c.counts side.Target) (c.counts side.Source);
-  finished = both _ (c.finished side.Target) (c.finished side.Source);
-  done = both _ (c.done side.Target) (c.done side.Source);
-  loaded = c.loaded;
-  source_filled = c.source_filled;
-  source_asked = λ x is. (follows.0, sym (same_Some b x is) ∙ not_true b rest.1);
-}
-  where
-    parts : (nat_lt 0 s.version ≡ true) × (request_follows s side.Source b ≡ true)
-    parts = and_parts (nat_lt 0 s.version) (request_follows s side.Source b) passes
-
-    follows : (has_fall_back s ≡ true) × ((is_none s.request_source && not b) ≡ true)
-    follows = and_parts (has_fall_back s) (is_none s.request_source && not b) parts.1
-
-    rest : (is_none s.request_source ≡ true) × (not b ≡ true)
-    rest = and_parts (is_none s.request_source) (not b) follows.1
+missing : (s : MetaState) (table of bytes rows : ℕ) → (nat_lt 0 s.version && snapshot_follows s table of bytes rows) ≡ true → has_snapshot s ≡ true → ⊥
+missing s table of bytes rows passes = not_all s table of bytes rows (more_snapshots s table of bytes rows passes)
 
 -- what an allowed Channels record says
 record IsCount (s : MetaState) (to : Side) (count : ℕ) : Type 0 where
@@ -291,70 +145,6 @@ count_is s to count passes = record {
 count_as : (count n : ℕ) → (1 ≤ count) × (count ≤ MAX_CHANNELS) → Some count ≡ Some n → (1 ≤ n) × (n ≤ MAX_CHANNELS)
 count_as count n range is = subst (λ (k : ℕ). (1 ≤ k) × (k ≤ MAX_CHANNELS)) (same_Some count n is) range
 
-channels_target_keeps : (s : MetaState) (count : ℕ) → IsConsistent s → is_allowed s (Channels side.Target count) ≡ true → IsConsistent (after_record s (Channels side.Target count))
-unfolding after_record is_allowed
-channels_target_keeps s count c passes = record {
-  version = c.version;
-  bare = λ none. absurd (versioned s.version n.versioned none);
-  tables = c.tables;
-  counted = c.counted;
-  some = c.some;
-  sized = c.sized;
-  exported = c.exported;
-  requested = c.requested;
-  filled = λ k is. n.may;
-  numbered = c.numbered;
-  lawful = c.lawful;
-  in_turn = c.in_turn;
-  first = c.first;
-  falls_back = c.falls_back;
-  ends = each _ (c.ends role.Source) (c.ends role.Target);
-  last_ends = each _ (c.last_ends role.Source) (c.last_ends role.Target);
-  asked = each _ (c.asked role.Source) (c.asked role.Target);
-  ended_back = c.ended_back;
-  counts = both _ (λ k is. count_as count k n.range is) (c.counts side.Source);
-  finished = both _ (c.finished side.Target) (c.finished side.Source);
-  done = both _ (c.done side.Target) (c.done side.Source);
-  loaded = c.loaded;
-  source_filled = c.source_filled;
-  source_asked = c.source_asked;
-}
-  where
-    n : IsCount s side.Target count
-    n = count_is s side.Target count passes
-
-channels_source_keeps : (s : MetaState) (count : ℕ) → IsConsistent s → is_allowed s (Channels side.Source count) ≡ true → IsConsistent (after_record s (Channels side.Source count))
-unfolding after_record is_allowed
-channels_source_keeps s count c passes = record {
-  version = c.version;
-  bare = λ none. absurd (versioned s.version n.versioned none);
-  tables = c.tables;
-  counted = c.counted;
-  some = c.some;
-  sized = c.sized;
-  exported = c.exported;
-  requested = c.requested;
-  filled = c.filled;
-  numbered = c.numbered;
-  lawful = c.lawful;
-  in_turn = c.in_turn;
-  first = c.first;
-  falls_back = c.falls_back;
-  ends = each _ (c.ends role.Source) (c.ends role.Target);
-  last_ends = each _ (c.last_ends role.Source) (c.last_ends role.Target);
-  asked = each _ (c.asked role.Source) (c.asked role.Target);
-  ended_back = c.ended_back;
-  counts = both _ (c.counts side.Target) (λ k is. count_as count k n.range is);
-  finished = both _ (c.finished side.Target) (c.finished side.Source);
-  done = both _ (c.done side.Target) (c.done side.Source);
-  loaded = c.loaded;
-  source_filled = λ k is. n.may;
-  source_asked = c.source_asked;
-}
-  where
-    n : IsCount s side.Source count
-    n = count_is s side.Source count passes
-
 -- the segment that a Finished record names is there, is closed and has events of that exporter
 abbrev IsClosedOf : MetaState → Role → ℕ → Type 0
 IsClosedOf s r n = (x : SegmentState) × IsSegment s n x × (x.closed ≡ true) × (x.role ≡ r)
@@ -374,169 +164,21 @@ finished_is s to segment passes = (a.0, λ n is. subst (IsClosedOf s (feeds to))
   b : (is_closed_of (feeds to) (slice_get s.segments segment) ≡ true) × (is_next_finished (feeds to) s.segments (finished_of to s) segment ≡ true)
   b = and_parts (is_closed_of (feeds to) (slice_get s.segments segment)) (is_next_finished (feeds to) s.segments (finished_of to s) segment) a.1
 
-finished_target_keeps : (s : MetaState) (segment : ℕ) → IsConsistent s → is_allowed s (Finished side.Target segment) ≡ true → IsConsistent (after_record s (Finished side.Target segment))
-unfolding after_record is_allowed
-finished_target_keeps s segment c passes = record {
-  version = c.version;
-  bare = λ none. absurd (versioned s.version n.0 none);
-  tables = c.tables;
-  counted = c.counted;
-  some = c.some;
-  sized = c.sized;
-  exported = c.exported;
-  requested = c.requested;
-  filled = c.filled;
-  numbered = c.numbered;
-  lawful = c.lawful;
-  in_turn = c.in_turn;
-  first = c.first;
-  falls_back = c.falls_back;
-  ends = each _ (c.ends role.Source) (c.ends role.Target);
-  last_ends = each _ (c.last_ends role.Source) (c.last_ends role.Target);
-  asked = each _ (c.asked role.Source) (c.asked role.Target);
-  ended_back = c.ended_back;
-  counts = both _ (c.counts side.Target) (c.counts side.Source);
-  finished = both _ n.1 (c.finished side.Source);
-  done = both _ (c.done side.Target) (c.done side.Source);
-  loaded = c.loaded;
-  source_filled = c.source_filled;
-  source_asked = c.source_asked;
-}
-  where
-    n : (nat_lt 0 s.version ≡ true) × ((n : ℕ) → Some segment ≡ Some n → IsClosedOf s role.Source n)
-    n = finished_is s side.Target segment passes
-
-finished_source_keeps : (s : MetaState) (segment : ℕ) → IsConsistent s → is_allowed s (Finished side.Source segment) ≡ true → IsConsistent (after_record s (Finished side.Source segment))
-unfolding after_record is_allowed
-finished_source_keeps s segment c passes = record {
-  version = c.version;
-  bare = λ none. absurd (versioned s.version n.0 none);
-  tables = c.tables;
-  counted = c.counted;
-  some = c.some;
-  sized = c.sized;
-  exported = c.exported;
-  requested = c.requested;
-  filled = c.filled;
-  numbered = c.numbered;
-  lawful = c.lawful;
-  in_turn = c.in_turn;
-  first = c.first;
-  falls_back = c.falls_back;
-  ends = each _ (c.ends role.Source) (c.ends role.Target);
-  last_ends = each _ (c.last_ends role.Source) (c.last_ends role.Target);
-  asked = each _ (c.asked role.Source) (c.asked role.Target);
-  ended_back = c.ended_back;
-  counts = both _ (c.counts side.Target) (c.counts side.Source);
-  finished = both _ (c.finished side.Target) n.1;
-  done = both _ (c.done side.Target) (c.done side.Source);
-  loaded = c.loaded;
-  source_filled = c.source_filled;
-  source_asked = c.source_asked;
-}
-  where
-    n : (nat_lt 0 s.version ≡ true) × ((n : ℕ) → Some segment ≡ Some n → IsClosedOf s role.Target n)
-    n = finished_is s side.Source segment passes
-
 -- the fall-back was asked for
 says : (s : MetaState) → has_fall_back s ≡ true → says_fall_back s.request_target ≡ true
 says s back = (and_parts s.done_target (says_fall_back s.request_target) back).1
 
-done_target_keeps : (s : MetaState) → IsConsistent s → is_allowed s (Done side.Target) ≡ true → IsConsistent (after_record s (Done side.Target))
-unfolding after_record is_allowed
-done_target_keeps s c passes = record {
-  version = c.version;
-  bare = λ none. absurd (versioned s.version parts.0 none);
-  tables = c.tables;
-  counted = c.counted;
-  some = c.some;
-  sized = c.sized;
-  exported = c.exported;
-  requested = c.requested;
-  filled = c.filled;
-  numbered = c.numbered;
-  lawful = c.lawful;
-  in_turn = c.in_turn;
-  first = c.first;
-  falls_back = λ n x there target. says s (c.falls_back n x there target);
-  ends = each _ (c.ends role.Source) (c.ends role.Target);
-  last_ends = each _ (c.last_ends role.Source) (c.last_ends role.Target);
-  asked = each _ (c.asked role.Source) (c.asked role.Target);
-  ended_back = λ ended. says s (c.ended_back ended);
-  counts = both _ (c.counts side.Target) (c.counts side.Source);
-  finished = both _ (c.finished side.Target) (c.finished side.Source);
-  done = both _ (λ is. (and_parts s.ended_source (not s.done_target) parts.1).0) (c.done side.Source);
-  loaded = λ is. says s (c.loaded is);
-  source_filled = c.source_filled;
-  source_asked = λ b is. (says s (c.source_asked b is).0, (c.source_asked b is).1);
-}
-  where
-    parts : (nat_lt 0 s.version ≡ true) × ((s.ended_source && not s.done_target) ≡ true)
-    parts = and_parts (nat_lt 0 s.version) (s.ended_source && not s.done_target) passes
+-- there is no fall-back before the first request to the target
+no_back : (s : MetaState) (b : Bool) → (nat_lt 0 s.version && request_follows s side.Target b) ≡ true → has_fall_back s ≡ true → ⊥
+no_back s b passes back =
+    let none : s.request_target ≡ None = none_is s.request_target (and_parts (has_snapshot s) (is_none s.request_target) (behind s (request_follows s side.Target b) passes)).1 in
+    false≢true (ap says_fall_back (sym none) ∙ says s back)
 
-done_source_keeps : (s : MetaState) → IsConsistent s → is_allowed s (Done side.Source) ≡ true → IsConsistent (after_record s (Done side.Source))
-unfolding after_record is_allowed
-done_source_keeps s c passes = record {
-  version = c.version;
-  bare = λ none. absurd (versioned s.version parts.0 none);
-  tables = c.tables;
-  counted = c.counted;
-  some = c.some;
-  sized = c.sized;
-  exported = c.exported;
-  requested = c.requested;
-  filled = c.filled;
-  numbered = c.numbered;
-  lawful = c.lawful;
-  in_turn = c.in_turn;
-  first = c.first;
-  falls_back = c.falls_back;
-  ends = each _ (c.ends role.Source) (c.ends role.Target);
-  last_ends = each _ (c.last_ends role.Source) (c.last_ends role.Target);
-  asked = each _ (c.asked role.Source) (c.asked role.Target);
-  ended_back = c.ended_back;
-  counts = both _ (c.counts side.Target) (c.counts side.Source);
-  finished = both _ (c.finished side.Target) (c.finished side.Source);
-  done = both _ (c.done side.Target) (λ is. (and_parts s.ended_target (not s.done_source) parts.1).0);
-  loaded = c.loaded;
-  source_filled = c.source_filled;
-  source_asked = c.source_asked;
-}
-  where
-    parts : (nat_lt 0 s.version ≡ true) × ((s.ended_target && not s.done_source) ≡ true)
-    parts = and_parts (nat_lt 0 s.version) (s.ended_target && not s.done_source) passes
-
-loaded_keeps : (s : MetaState) → IsConsistent s → is_allowed s Loaded ≡ true → IsConsistent (after_record s Loaded)
-unfolding after_record is_allowed
-loaded_keeps s c passes = record {
-  version = c.version;
-  bare = λ none. absurd (versioned s.version parts.0 none);
-  tables = c.tables;
-  counted = c.counted;
-  some = c.some;
-  sized = c.sized;
-  exported = c.exported;
-  requested = c.requested;
-  filled = c.filled;
-  numbered = c.numbered;
-  lawful = c.lawful;
-  in_turn = c.in_turn;
-  first = c.first;
-  falls_back = c.falls_back;
-  ends = each _ (c.ends role.Source) (c.ends role.Target);
-  last_ends = each _ (c.last_ends role.Source) (c.last_ends role.Target);
-  asked = each _ (c.asked role.Source) (c.asked role.Target);
-  ended_back = c.ended_back;
-  counts = both _ (c.counts side.Target) (c.counts side.Source);
-  finished = both _ (c.finished side.Target) (c.finished side.Source);
-  done = both _ (c.done side.Target) (c.done side.Source);
-  loaded = λ is. (and_parts (has_fall_back s) (not s.loaded) parts.1).0;
-  source_filled = λ n is. refl;
-  source_asked = c.source_asked;
-}
-  where
-    parts : (nat_lt 0 s.version ≡ true) × ((has_fall_back s && not s.loaded) ≡ true)
-    parts = and_parts (nat_lt 0 s.version) (has_fall_back s && not s.loaded) passes
+-- what a request to the source says
+back_asked : (s : MetaState) (b : Bool) → (nat_lt 0 s.version && request_follows s side.Source b) ≡ true → (has_fall_back s ≡ true) × (b ≡ false)
+back_asked s b passes =
+    let parts = and_parts (has_fall_back s) (is_none s.request_source && not b) (behind s (request_follows s side.Source b) passes) in
+    (parts.0, not_true b (and_parts (is_none s.request_source) (not b) parts.1).1)
 
 -- the last segment, where one was put
 last_put : (s : MetaState) (segment : ℕ) (new x : SegmentState) → segment ≤ length s.segments → slice_get (put s segment new) (length (put s segment new) - 1) ≡ Some x → (new.role ≡ x.role) × (new.ended ≡ x.ended)
@@ -544,123 +186,224 @@ last_put s segment new x within found =
     let is : new ≡ x = put_last s segment new x within found in
     (ap (λ (y : SegmentState). y.role) is, ap (λ (y : SegmentState). y.ended) is)
 
-queue_source_keeps : (s : MetaState) (segment bytes last_vsn : ℕ) (spot : Option Spot) (closed ended : Bool) → IsConsistent s
-    → is_allowed s (Queue segment bytes last_vsn role.Source spot closed ended) ≡ true → IsConsistent (after_record s (Queue segment bytes last_vsn role.Source spot closed ended))
+-- the segment of these fields, which may be put
+abbrev segment_of : (bytes last_vsn : ℕ) → Role → (closed ended : Bool) → SegmentState
+segment_of bytes last_vsn r closed ended = record { bytes = bytes; last_vsn = last_vsn; role = r; closed = closed; ended = ended }
+
+pub put_by : (s : MetaState) (segment bytes last_vsn : ℕ) (r : Role) (spot : Option Spot) (closed ended : Bool) → (nat_lt 0 s.version && queue_follows s segment bytes last_vsn r spot closed ended) ≡ true
+    → IsPut s segment (record { bytes = bytes; last_vsn = last_vsn; role = r; closed = closed; ended = ended }) spot
+put_by s segment bytes last_vsn r spot closed ended passes =
+    put_is s segment (segment_of bytes last_vsn r closed ended) spot (behind s (queue_follows s segment bytes last_vsn r spot closed ended) passes)
+
+-- an allowed record keeps this of a consistent state
+abbrev Kept : (MetaState → Type 0) → Type 0
+Kept P = (s : MetaState) (e : MetaRecord) → IsConsistent s → is_allowed s e ≡ true → P (after_record s e)
+
+ranges : (s : MetaState) (v : ℕ) → version_follows s.version v ≡ true → (v ≡ 1) ⊎ (v ≡ 2)
+ranges s v passes = elim (or_cases ((v == 1) && (s.version == 0)) ((v == 2) && nat_lt s.version 2) passes) [
+  | inl first ↦ inl (eqb-true v 1 (and_parts (v == 1) (s.version == 0) first).0)
+  | inr second ↦ inr (eqb-true v 2 (and_parts (v == 2) (nat_lt s.version 2) second).0)
+]
+
+version_kept : Kept (λ t. t.version ≤ VERSION)
 unfolding after_record is_allowed
-queue_source_keeps s segment bytes last_vsn spot closed ended c passes = record {
-  version = c.version;
-  bare = λ none. absurd (versioned s.version parts.0 none);
-  tables = c.tables;
-  counted = c.counted;
-  some = c.some;
-  sized = c.sized;
-  exported = put_each s segment new (λ x. has_snapshot s ≡ true) within c.exported q.snapshot;
-  requested = c.requested;
-  filled = c.filled;
-  numbered = (let long : length (put s segment new) ≡ suc segment = length_put s.segments segment new within in let most : segment ≤ 4294967294 = q.numbered in omega arith);
-  lawful = put_each s segment new IsLawful within c.lawful (put_lawful s segment new spot q);
-  in_turn = put_in_turn s segment new spot c q;
-  first = put_first s segment new spot c q;
-  falls_back = put_each s segment new (λ x. x.role ≡ role.Target → has_fall_back s ≡ true) within c.falls_back (λ is. absurd (source_target is));
-  ends = each _ (sym (put_ends s segment new spot c q role.Source ∙ ap (λ b. s.ended_source || b) (and_true ended)))
-      (sym (put_ends s segment new spot c q role.Target ∙ ap (λ b. s.ended_target || b) (and_false ended) ∙ or_false s.ended_target));
-  last_ends = each _ (λ x found is. ap (λ b. b || ended) (not_true s.ended_source q.may_write) ∙ (last_put s segment new x within found).1)
-      (λ x found is. absurd (source_target ((last_put s segment new x within found).0 ∙ is)));
-  asked = each _ (λ is. elim (or_cases s.ended_source ended is) [ inl before ↦ c.asked role.Source before | inr now ↦ some_is s.request_target (q.end now).asked ]) (c.asked role.Target);
-  ended_back = c.ended_back;
-  counts = both _ (c.counts side.Target) (c.counts side.Source);
-  finished = both _ (kept side.Target) (kept side.Source);
-  done = both _ (λ is. or_left s.ended_source ended (c.done side.Target is)) (c.done side.Source);
-  loaded = c.loaded;
-  source_filled = c.source_filled;
-  source_asked = c.source_asked;
-}
-  where
-    new : SegmentState
-    new = record { bytes = bytes; last_vsn = last_vsn; role = role.Source; closed = closed; ended = ended }
+version_kept s (Version v) c passes = elim (ranges s v passes) [ inl one ↦ omega arith | inr two ↦ omega arith ]
+version_kept s e c passes = c.version
 
-    parts : (nat_lt 0 s.version ≡ true) × (queue_follows s segment bytes last_vsn role.Source spot closed ended ≡ true)
-    parts = and_parts (nat_lt 0 s.version) (queue_follows s segment bytes last_vsn role.Source spot closed ended) passes
-
-    q : IsPut s segment new spot
-    q = put_is s segment new spot parts.1
-
-    within : segment ≤ length s.segments
-    within = put_within s segment new spot q
-
-    source_target : role.Source ≡ role.Target → ⊥
-    source_target is = cc
-
-    kept : (to : Side) (n : ℕ) → finished_of to s ≡ Some n → (x : SegmentState) × (slice_get (put s segment new) n ≡ Some x) × (x.closed ≡ true) × (x.role ≡ feeds to)
-    kept to n is = let old = c.finished to n is in (old.0, put_closed s segment new spot q n old.0 old.1 old.2, old.2, old.3)
-
-queue_target_keeps : (s : MetaState) (segment bytes last_vsn : ℕ) (spot : Option Spot) (closed ended : Bool) → IsConsistent s
-    → is_allowed s (Queue segment bytes last_vsn role.Target spot closed ended) ≡ true → IsConsistent (after_record s (Queue segment bytes last_vsn role.Target spot closed ended))
+bare_kept : Kept (λ t. t.version ≡ 0 → t ≡ empty_state)
 unfolding after_record is_allowed
-queue_target_keeps s segment bytes last_vsn spot closed ended c passes = record {
-  version = c.version;
-  bare = λ none. absurd (versioned s.version parts.0 none);
-  tables = c.tables;
-  counted = c.counted;
-  some = c.some;
-  sized = c.sized;
-  exported = put_each s segment new (λ x. has_snapshot s ≡ true) within c.exported q.snapshot;
-  requested = c.requested;
-  filled = c.filled;
-  numbered = (let long : length (put s segment new) ≡ suc segment = length_put s.segments segment new within in let most : segment ≤ 4294967294 = q.numbered in omega arith);
-  lawful = put_each s segment new IsLawful within c.lawful (put_lawful s segment new spot q);
-  in_turn = put_in_turn s segment new spot c q;
-  first = put_first s segment new spot c q;
-  falls_back = put_each s segment new (λ x. x.role ≡ role.Target → has_fall_back s ≡ true) within c.falls_back (λ is. w.back);
-  ends = each _ (sym (put_ends s segment new spot c q role.Source ∙ ap (λ b. s.ended_source || b) (and_false ended) ∙ or_false s.ended_source))
-      (sym (put_ends s segment new spot c q role.Target ∙ ap (λ b. s.ended_target || b) (and_true ended)));
-  last_ends = each _ (λ x found is. absurd (target_source ((last_put s segment new x within found).0 ∙ is)))
-      (λ x found is. ap (λ b. b || ended) (not_true s.ended_target w.target) ∙ (last_put s segment new x within found).1);
-  asked = each _ (c.asked role.Source) (λ is. elim (or_cases s.ended_target ended is) [ inl before ↦ c.asked role.Target before | inr now ↦ some_is s.request_source (q.end now).asked ]);
-  ended_back = λ is. w.back;
-  counts = both _ (c.counts side.Target) (c.counts side.Source);
-  finished = both _ (kept side.Target) (kept side.Source);
-  done = both _ (c.done side.Target) (λ is. or_left s.ended_target ended (c.done side.Source is));
-  loaded = c.loaded;
-  source_filled = c.source_filled;
-  source_asked = c.source_asked;
-}
-  where
-    new : SegmentState
-    new = record { bytes = bytes; last_vsn = last_vsn; role = role.Target; closed = closed; ended = ended }
+bare_kept s (Version v) c passes = λ none. absurd (elim (ranges s v passes) [ inl one ↦ omega arith | inr two ↦ omega arith ])
+bare_kept s e c passes = λ none. absurd (versioned s.version (and_parts (nat_lt 0 s.version) (follows_version s e) passes).0 none)
 
-    parts : (nat_lt 0 s.version ≡ true) × (queue_follows s segment bytes last_vsn role.Target spot closed ended ≡ true)
-    parts = and_parts (nat_lt 0 s.version) (queue_follows s segment bytes last_vsn role.Target spot closed ended) passes
+tables_kept : Kept (λ t. t.tables ≤ MAX_TABLES)
+unfolding after_record is_allowed
+tables_kept s (Snapshot table of bytes rows) c passes = (more_snapshots s table of bytes rows passes).most
+tables_kept s e c passes = c.tables
 
-    q : IsPut s segment new spot
-    q = put_is s segment new spot parts.1
+counted_kept : Kept (λ t. length t.snapshots ≤ t.tables)
+unfolding after_record is_allowed
+counted_kept s (Snapshot table of bytes rows) c passes =
+    let long : length (s.snapshots ++ record { bytes = bytes; rows = rows } ∷ []) ≡ suc (length s.snapshots) = length_more s.snapshots (record { bytes = bytes; rows = rows }) in
+    let next : table ≡ length s.snapshots = (more_snapshots s table of bytes rows passes).next in
+    let below : table < of = (more_snapshots s table of bytes rows passes).below in
+    omega arith
+counted_kept s e c passes = c.counted
 
-    w : WritesBack s
-    w = writes_back s q.may_write
+some_kept : Kept (λ t. t.snapshots ≡ [] → t.tables ≡ 0)
+unfolding after_record is_allowed
+some_kept s (Snapshot table of bytes rows) c passes = λ none.
+    let long : length (s.snapshots ++ record { bytes = bytes; rows = rows } ∷ []) ≡ suc (length s.snapshots) = length_more s.snapshots (record { bytes = bytes; rows = rows }) in
+    let empty : length (s.snapshots ++ record { bytes = bytes; rows = rows } ∷ []) ≡ 0 = ap length none in
+    absurd (omega arith)
+some_kept s e c passes = c.some
 
-    within : segment ≤ length s.segments
-    within = put_within s segment new spot q
+sized_kept : Kept (λ t. (n : ℕ) (x : SnapshotState) → slice_get t.snapshots n ≡ Some x → IsSized x)
+unfolding after_record is_allowed
+sized_kept s (Snapshot table of bytes rows) c passes = λ n x found. elim (get_more s.snapshots (record { bytes = bytes; rows = rows }) n x found) [
+  | inl old ↦ c.sized n x old
+  | inr is ↦ subst IsSized is (more_snapshots s table of bytes rows passes).sized
+]
+sized_kept s e c passes = c.sized
 
-    target_source : role.Target ≡ role.Source → ⊥
-    target_source is = cc
+exported_kept : Kept (λ t. (n : ℕ) (x : SegmentState) → IsSegment t n x → has_snapshot t ≡ true)
+unfolding after_record is_allowed
+exported_kept s (Snapshot table of bytes rows) c passes = λ n x there. absurd (missing s table of bytes rows passes (c.exported n x there))
+exported_kept s (Queue segment bytes last_vsn r spot closed ended) c passes = put_each s segment (segment_of bytes last_vsn r closed ended) (λ x. has_snapshot s ≡ true) (put_within s segment (segment_of bytes last_vsn r closed ended) spot (put_by s segment bytes last_vsn r spot closed ended passes)) c.exported (put_by s segment bytes last_vsn r spot closed ended passes).snapshot
+exported_kept s e c passes = c.exported
 
-    kept : (to : Side) (n : ℕ) → finished_of to s ≡ Some n → (x : SegmentState) × (slice_get (put s segment new) n ≡ Some x) × (x.closed ≡ true) × (x.role ≡ feeds to)
-    kept to n is = let old = c.finished to n is in (old.0, put_closed s segment new spot q n old.0 old.1 old.2, old.2, old.3)
+requested_kept : Kept (λ t. (b : Bool) → t.request_target ≡ Some b → has_snapshot t ≡ true)
+unfolding after_record is_allowed
+requested_kept s (Snapshot table of bytes rows) c passes = λ b is. absurd (missing s table of bytes rows passes (c.requested b is))
+requested_kept s (Request side.Target b) c passes = λ x is. (and_parts (has_snapshot s) (is_none s.request_target) (behind s (request_follows s side.Target b) passes)).0
+requested_kept s e c passes = c.requested
+
+filled_kept : Kept (λ t. (n : ℕ) → t.channels_target ≡ Some n → has_snapshot t ≡ true)
+unfolding after_record is_allowed
+filled_kept s (Snapshot table of bytes rows) c passes = λ n is. absurd (missing s table of bytes rows passes (c.filled n is))
+filled_kept s (Channels side.Target count) c passes = λ n is. (count_is s side.Target count passes).may
+filled_kept s e c passes = c.filled
+
+numbered_kept : Kept (λ t. length t.segments ≤ suc MAX_SEGMENT)
+unfolding after_record is_allowed
+numbered_kept s (Queue segment bytes last_vsn r spot closed ended) c passes =
+    let long : length (put s segment (segment_of bytes last_vsn r closed ended)) ≡ suc segment = length_put s.segments segment (segment_of bytes last_vsn r closed ended) (put_within s segment (segment_of bytes last_vsn r closed ended) spot (put_by s segment bytes last_vsn r spot closed ended passes)) in
+    let most : segment ≤ MAX_SEGMENT = (put_by s segment bytes last_vsn r spot closed ended passes).numbered in
+    omega arith
+numbered_kept s e c passes = c.numbered
+
+lawful_kept : Kept (λ t. (n : ℕ) (x : SegmentState) → IsSegment t n x → IsLawful x)
+unfolding after_record is_allowed
+lawful_kept s (Queue segment bytes last_vsn r spot closed ended) c passes = put_each s segment (segment_of bytes last_vsn r closed ended) IsLawful (put_within s segment (segment_of bytes last_vsn r closed ended) spot (put_by s segment bytes last_vsn r spot closed ended passes)) c.lawful (put_lawful s segment (segment_of bytes last_vsn r closed ended) spot (put_by s segment bytes last_vsn r spot closed ended passes))
+lawful_kept s e c passes = c.lawful
+
+in_turn_kept : Kept (λ t. (n : ℕ) (a b : SegmentState) → IsSegment t n a → IsSegment t (suc n) b → IsInTurn a b)
+unfolding after_record is_allowed
+in_turn_kept s (Queue segment bytes last_vsn r spot closed ended) c passes = put_in_turn s segment (segment_of bytes last_vsn r closed ended) spot c (put_by s segment bytes last_vsn r spot closed ended passes)
+in_turn_kept s e c passes = c.in_turn
+
+first_kept : Kept (λ t. (x : SegmentState) → IsSegment t 0 x → x.role ≡ role.Source)
+unfolding after_record is_allowed
+first_kept s (Queue segment bytes last_vsn r spot closed ended) c passes = put_first s segment (segment_of bytes last_vsn r closed ended) spot c (put_by s segment bytes last_vsn r spot closed ended passes)
+first_kept s e c passes = c.first
+
+falls_back_kept : Kept (λ t. (n : ℕ) (x : SegmentState) → IsSegment t n x → x.role ≡ role.Target → has_fall_back t ≡ true)
+unfolding after_record is_allowed
+falls_back_kept s (Queue segment bytes last_vsn r spot closed ended) c passes = put_each s segment (segment_of bytes last_vsn r closed ended) (λ x. x.role ≡ role.Target → has_fall_back s ≡ true) (put_within s segment (segment_of bytes last_vsn r closed ended) spot (put_by s segment bytes last_vsn r spot closed ended passes)) c.falls_back
+    (λ target. (writes_back s (ap (writes s) (sym target) ∙ (put_by s segment bytes last_vsn r spot closed ended passes).may_write)).back)
+falls_back_kept s (Request side.Target b) c passes = λ n x there target. absurd (no_back s b passes (c.falls_back n x there target))
+falls_back_kept s (Done side.Target) c passes = λ n x there target. says s (c.falls_back n x there target)
+falls_back_kept s e c passes = c.falls_back
+
+ends_kept : Kept (λ t. (r : Role) → is_ended r t ≡ list_any (ends_part r) t.segments)
+unfolding after_record is_allowed
+ends_kept s (Queue segment bytes last_vsn role.Source spot closed ended) c passes role.Source = sym (put_ends s segment (segment_of bytes last_vsn role.Source closed ended) spot c (put_by s segment bytes last_vsn role.Source spot closed ended passes) role.Source ∙ ap (λ b. s.ended_source || b) (and_true ended))
+ends_kept s (Queue segment bytes last_vsn role.Source spot closed ended) c passes role.Target = sym (put_ends s segment (segment_of bytes last_vsn role.Source closed ended) spot c (put_by s segment bytes last_vsn role.Source spot closed ended passes) role.Target ∙ ap (λ b. s.ended_target || b) (and_false ended) ∙ or_false s.ended_target)
+ends_kept s (Queue segment bytes last_vsn role.Target spot closed ended) c passes role.Source = sym (put_ends s segment (segment_of bytes last_vsn role.Target closed ended) spot c (put_by s segment bytes last_vsn role.Target spot closed ended passes) role.Source ∙ ap (λ b. s.ended_source || b) (and_false ended) ∙ or_false s.ended_source)
+ends_kept s (Queue segment bytes last_vsn role.Target spot closed ended) c passes role.Target = sym (put_ends s segment (segment_of bytes last_vsn role.Target closed ended) spot c (put_by s segment bytes last_vsn role.Target spot closed ended passes) role.Target ∙ ap (λ b. s.ended_target || b) (and_true ended))
+ends_kept s e c passes role.Source = c.ends role.Source
+ends_kept s e c passes role.Target = c.ends role.Target
+
+last_ends_kept : Kept (λ t. (r : Role) (x : SegmentState) → last_segment t ≡ Some x → x.role ≡ r → is_ended r t ≡ x.ended)
+unfolding after_record is_allowed
+last_ends_kept s (Queue segment bytes last_vsn role.Source spot closed ended) c passes role.Source = λ x found is. ap (λ b. b || ended) (not_true s.ended_source (put_by s segment bytes last_vsn role.Source spot closed ended passes).may_write) ∙ (last_put s segment (segment_of bytes last_vsn role.Source closed ended) x (put_within s segment (segment_of bytes last_vsn role.Source closed ended) spot (put_by s segment bytes last_vsn role.Source spot closed ended passes)) found).1
+last_ends_kept s (Queue segment bytes last_vsn role.Source spot closed ended) c passes role.Target = λ x found is. absurd (apart ((last_put s segment (segment_of bytes last_vsn role.Source closed ended) x (put_within s segment (segment_of bytes last_vsn role.Source closed ended) spot (put_by s segment bytes last_vsn role.Source spot closed ended passes)) found).0 ∙ is))
+last_ends_kept s (Queue segment bytes last_vsn role.Target spot closed ended) c passes role.Source = λ x found is. absurd (apart (sym is ∙ sym (last_put s segment (segment_of bytes last_vsn role.Target closed ended) x (put_within s segment (segment_of bytes last_vsn role.Target closed ended) spot (put_by s segment bytes last_vsn role.Target spot closed ended passes)) found).0))
+last_ends_kept s (Queue segment bytes last_vsn role.Target spot closed ended) c passes role.Target = λ x found is. ap (λ b. b || ended) (not_true s.ended_target (writes_back s (put_by s segment bytes last_vsn role.Target spot closed ended passes).may_write).target) ∙ (last_put s segment (segment_of bytes last_vsn role.Target closed ended) x (put_within s segment (segment_of bytes last_vsn role.Target closed ended) spot (put_by s segment bytes last_vsn role.Target spot closed ended passes)) found).1
+last_ends_kept s e c passes role.Source = c.last_ends role.Source
+last_ends_kept s e c passes role.Target = c.last_ends role.Target
+
+asked_kept : Kept (λ t. (r : Role) → is_ended r t ≡ true → request_of (leads_to r) t ≢ None)
+unfolding after_record is_allowed
+asked_kept s (Queue segment bytes last_vsn role.Source spot closed ended) c passes role.Source = λ is. elim (or_cases s.ended_source ended is) [ inl before ↦ c.asked role.Source before | inr now ↦ some_is s.request_target ((put_by s segment bytes last_vsn role.Source spot closed ended passes).end now).asked ]
+asked_kept s (Queue segment bytes last_vsn role.Target spot closed ended) c passes role.Target = λ is. elim (or_cases s.ended_target ended is) [ inl before ↦ c.asked role.Target before | inr now ↦ some_is s.request_source ((put_by s segment bytes last_vsn role.Target spot closed ended passes).end now).asked ]
+asked_kept s (Request side.Target b) c passes role.Source = λ ended is. none-some b (sym is)
+asked_kept s (Request side.Source b) c passes role.Target = λ ended is. none-some b (sym is)
+asked_kept s e c passes role.Source = c.asked role.Source
+asked_kept s e c passes role.Target = c.asked role.Target
+
+ended_back_kept : Kept (λ t. t.ended_target ≡ true → has_fall_back t ≡ true)
+unfolding after_record is_allowed
+ended_back_kept s (Queue segment bytes last_vsn role.Target spot closed ended) c passes = λ is. (writes_back s (put_by s segment bytes last_vsn role.Target spot closed ended passes).may_write).back
+ended_back_kept s (Request side.Target b) c passes = λ ended. absurd (no_back s b passes (c.ended_back ended))
+ended_back_kept s (Done side.Target) c passes = λ ended. says s (c.ended_back ended)
+ended_back_kept s e c passes = c.ended_back
+
+counts_kept : Kept (λ t. (to : Side) (n : ℕ) → channels_of to t ≡ Some n → (1 ≤ n) × (n ≤ MAX_CHANNELS))
+unfolding after_record is_allowed
+counts_kept s (Channels side.Target count) c passes side.Target = λ n is. count_as count n (count_is s side.Target count passes).range is
+counts_kept s (Channels side.Source count) c passes side.Source = λ n is. count_as count n (count_is s side.Source count passes).range is
+counts_kept s e c passes side.Target = c.counts side.Target
+counts_kept s e c passes side.Source = c.counts side.Source
+
+closed_there : (s : MetaState) (segment : ℕ) (new : SegmentState) (spot : Option Spot) (r : Role) (n : ℕ) → IsPut s segment new spot → IsClosedOf s r n
+    → (x : SegmentState) × (slice_get (put s segment new) n ≡ Some x) × (x.closed ≡ true) × (x.role ≡ r)
+closed_there s segment new spot r n q old = (old.0, put_closed s segment new spot q n old.0 old.1 old.2, old.2, old.3)
+
+finished_kept : Kept (λ t. (to : Side) (n : ℕ) → finished_of to t ≡ Some n → IsClosedOf t (feeds to) n)
+unfolding after_record is_allowed
+finished_kept s (Finished side.Target segment) c passes side.Target = (finished_is s side.Target segment passes).1
+finished_kept s (Finished side.Source segment) c passes side.Source = (finished_is s side.Source segment passes).1
+finished_kept s (Queue segment bytes last_vsn r spot closed ended) c passes side.Target = λ n is. closed_there s segment (segment_of bytes last_vsn r closed ended) spot role.Source n (put_by s segment bytes last_vsn r spot closed ended passes) (c.finished side.Target n is)
+finished_kept s (Queue segment bytes last_vsn r spot closed ended) c passes side.Source = λ n is. closed_there s segment (segment_of bytes last_vsn r closed ended) spot role.Target n (put_by s segment bytes last_vsn r spot closed ended passes) (c.finished side.Source n is)
+finished_kept s e c passes side.Target = c.finished side.Target
+finished_kept s e c passes side.Source = c.finished side.Source
+
+done_kept : Kept (λ t. (to : Side) → is_done to t ≡ true → is_ended (feeds to) t ≡ true)
+unfolding after_record is_allowed
+done_kept s (Queue segment bytes last_vsn role.Source spot closed ended) c passes side.Target = λ is. or_left s.ended_source ended (c.done side.Target is)
+done_kept s (Queue segment bytes last_vsn role.Target spot closed ended) c passes side.Source = λ is. or_left s.ended_target ended (c.done side.Source is)
+done_kept s (Done side.Target) c passes side.Target = λ is. (and_parts s.ended_source (not s.done_target) (behind s (s.ended_source && not s.done_target) passes)).0
+done_kept s (Done side.Source) c passes side.Source = λ is. (and_parts s.ended_target (not s.done_source) (behind s (s.ended_target && not s.done_source) passes)).0
+done_kept s e c passes side.Target = c.done side.Target
+done_kept s e c passes side.Source = c.done side.Source
+
+loaded_kept : Kept (λ t. t.loaded ≡ true → has_fall_back t ≡ true)
+unfolding after_record is_allowed
+loaded_kept s (Request side.Target b) c passes = λ is. absurd (no_back s b passes (c.loaded is))
+loaded_kept s (Done side.Target) c passes = λ is. says s (c.loaded is)
+loaded_kept s Loaded c passes = λ is. (and_parts (has_fall_back s) (not s.loaded) (behind s (has_fall_back s && not s.loaded) passes)).0
+loaded_kept s e c passes = c.loaded
+
+source_filled_kept : Kept (λ t. (n : ℕ) → t.channels_source ≡ Some n → t.loaded ≡ true)
+unfolding after_record is_allowed
+source_filled_kept s (Channels side.Source count) c passes = λ n is. (count_is s side.Source count passes).may
+source_filled_kept s Loaded c passes = λ n is. refl
+source_filled_kept s e c passes = c.source_filled
+
+source_asked_kept : Kept (λ t. (b : Bool) → t.request_source ≡ Some b → (has_fall_back t ≡ true) × (b ≡ false))
+unfolding after_record is_allowed
+source_asked_kept s (Request side.Target b) c passes = λ x is. absurd (no_back s b passes (c.source_asked x is).0)
+source_asked_kept s (Request side.Source b) c passes = λ x is. ((back_asked s b passes).0, sym (same_Some b x is) ∙ (back_asked s b passes).1)
+source_asked_kept s (Done side.Target) c passes = λ x is. (says s (c.source_asked x is).0, (c.source_asked x is).1)
+source_asked_kept s e c passes = c.source_asked
 
 pub consistency_is_kept : ConsistencyIsKept
-consistency_is_kept s (Version v) = version_keeps s v
-consistency_is_kept s (Snapshot table of bytes rows) = snapshot_keeps s table of bytes rows
-consistency_is_kept s (Queue segment bytes last_vsn role.Source spot closed ended) = queue_source_keeps s segment bytes last_vsn spot closed ended
-consistency_is_kept s (Queue segment bytes last_vsn role.Target spot closed ended) = queue_target_keeps s segment bytes last_vsn spot closed ended
-consistency_is_kept s (Request side.Target b) = request_target_keeps s b
-consistency_is_kept s (Request side.Source b) = request_source_keeps s b
-consistency_is_kept s (Channels side.Target count) = channels_target_keeps s count
-consistency_is_kept s (Channels side.Source count) = channels_source_keeps s count
-consistency_is_kept s (Finished side.Target segment) = finished_target_keeps s segment
-consistency_is_kept s (Finished side.Source segment) = finished_source_keeps s segment
-consistency_is_kept s (Done side.Target) = done_target_keeps s
-consistency_is_kept s (Done side.Source) = done_source_keeps s
-consistency_is_kept s Loaded = loaded_keeps s
+consistency_is_kept s e c passes = record {
+  version = version_kept s e c passes;
+  bare = bare_kept s e c passes;
+  tables = tables_kept s e c passes;
+  counted = counted_kept s e c passes;
+  some = some_kept s e c passes;
+  sized = sized_kept s e c passes;
+  exported = exported_kept s e c passes;
+  requested = requested_kept s e c passes;
+  filled = filled_kept s e c passes;
+  numbered = numbered_kept s e c passes;
+  lawful = lawful_kept s e c passes;
+  in_turn = in_turn_kept s e c passes;
+  first = first_kept s e c passes;
+  falls_back = falls_back_kept s e c passes;
+  ends = ends_kept s e c passes;
+  last_ends = last_ends_kept s e c passes;
+  asked = asked_kept s e c passes;
+  ended_back = ended_back_kept s e c passes;
+  counts = counts_kept s e c passes;
+  finished = finished_kept s e c passes;
+  done = done_kept s e c passes;
+  loaded = loaded_kept s e c passes;
+  source_filled = source_filled_kept s e c passes;
+  source_asked = source_asked_kept s e c passes;
+}
 
 empty_consistent : IsConsistent empty_state
 empty_consistent = record {
@@ -678,17 +421,33 @@ empty_consistent = record {
   in_turn = λ n a b found there. absurd (none-some a found);
   first = λ x found. absurd (none-some x found);
   falls_back = λ n x found. absurd (none-some x found);
-  ends = each _ refl refl;
+  ends = λ r. ended_none r;
   last_ends = λ r x found. absurd (none-some x found);
-  asked = each _ (λ is. absurd (false≢true is)) (λ is. absurd (false≢true is));
+  asked = λ r is. absurd (false≢true (sym (ended_none r) ∙ is));
   ended_back = λ is. absurd (false≢true is);
-  counts = both _ (λ n is. absurd (none-some n is)) (λ n is. absurd (none-some n is));
-  finished = both _ (λ n is. absurd (none-some n is)) (λ n is. absurd (none-some n is));
-  done = both _ (λ is. absurd (false≢true is)) (λ is. absurd (false≢true is));
+  counts = counts;
+  finished = finished;
+  done = done;
   loaded = λ is. absurd (false≢true is);
   source_filled = λ n is. absurd (none-some n is);
   source_asked = λ b is. absurd (none-some b is);
 }
+  where
+    ended_none : (r : Role) → is_ended r empty_state ≡ false
+    ended_none role.Source = refl
+    ended_none role.Target = refl
+
+    counts : (to : Side) (n : ℕ) → channels_of to empty_state ≡ Some n → (1 ≤ n) × (n ≤ MAX_CHANNELS)
+    counts side.Target n is = absurd (none-some n is)
+    counts side.Source n is = absurd (none-some n is)
+
+    finished : (to : Side) (n : ℕ) → finished_of to empty_state ≡ Some n → IsClosedOf empty_state (feeds to) n
+    finished side.Target n is = absurd (none-some n is)
+    finished side.Source n is = absurd (none-some n is)
+
+    done : (to : Side) → is_done to empty_state ≡ true → is_ended (feeds to) empty_state ≡ true
+    done side.Target is = absurd (false≢true is)
+    done side.Source is = absurd (false≢true is)
 
 pub all_keep : (s : MetaState) (entries : List MetaRecord) → IsConsistent s → allowed_after s entries ≡ true → IsConsistent (state_after s entries)
 all_keep s [] c passes = c
@@ -699,20 +458,8 @@ all_keep s (entry ∷ entries) c passes =
 pub records_are_consistent : RecordsAreConsistent
 records_are_consistent entries passes = all_keep empty_state entries empty_consistent passes
 
-queue_stays : (s : MetaState) (segment : ℕ) (new : SegmentState) (spot : Option Spot) (n : ℕ) (x : SegmentState)
-    → (nat_lt 0 s.version && queue_follows s segment new.bytes new.last_vsn new.role spot new.closed new.ended) ≡ true
-    → IsSegment s n x → x.closed ≡ true → slice_get (put s segment new) n ≡ Some x
-queue_stays s segment new spot n x passes =
-    put_closed s segment new spot (put_is s segment new spot (and_parts (nat_lt 0 s.version) (queue_follows s segment new.bytes new.last_vsn new.role spot new.closed new.ended) passes).1) n x
-
 pub closed_stays : ClosedStays
 unfolding after_record is_allowed
 closed_stays s (Queue segment bytes last_vsn r spot closed ended) n x passes there shut =
-    queue_stays s segment (record { bytes = bytes; last_vsn = last_vsn; role = r; closed = closed; ended = ended }) spot n x passes there shut
-closed_stays s (Version v) n x passes there shut = there
-closed_stays s (Snapshot table of bytes rows) n x passes there shut = there
-closed_stays s (Request to b) n x passes there shut = there
-closed_stays s (Channels to count) n x passes there shut = there
-closed_stays s (Finished to segment) n x passes there shut = there
-closed_stays s (Done to) n x passes there shut = there
-closed_stays s Loaded n x passes there shut = there
+    put_closed s segment (segment_of bytes last_vsn r closed ended) spot (put_by s segment bytes last_vsn r spot closed ended passes) n x there shut
+closed_stays s e n x passes there shut = there

@@ -1,24 +1,21 @@
 -- The refusals of a request against the test of its record, and the order of stages.
 use Rattle.std.proofs.Common.{◌≡◌, ◌≢◌, ◌↔◌, ◌≤◌, Bool, true, false, [], ◌∷◌, Option, Some, None, refl, sym, ap, subst, arith}
-use Rattle.std.proofs.lemmas.Bool.{and_parts, false≢true, lt-ltb, or_left}
+use Rattle.std.proofs.lemmas.Bool.{and_parts, false≢true, lt-ltb}
 use Rattle.std.specs.Prelude.{◌&&◌, is_none, is_some, nat_lt, not, if◌then◌else◌}
-use Rattle.voy_tables.specs.declared.change.Role.{Role}
 use Rattle.voy_tables.specs.declared.change.Role.TheVariants as role
-use Rattle.voy_tables.specs.declared.change.Side.{Side}
 use Rattle.voy_tables.specs.declared.change.Side.TheVariants as side
-use Rattle.voy_meta.specs.Allowed.{has_snapshot, is_allowed, says_fall_back, snapshot_follows}
-use Rattle.voy_meta.specs.Sides.{is_done, is_ended}
+use Rattle.voy_meta.specs.Allowed.{has_snapshot, is_allowed, says_fall_back}
 use Rattle.voy_meta.specs.Stages.{first_reason, is_reached, place_of, request_refusal, stage_of}
 use Rattle.voy_meta.specs.Stands.{IsConsistent}
-use Rattle.voy_meta.specs.State.{after_record}
-use Rattle.voy_meta.specs.StateLaws.{NoFallBackIsSaid, NotRefusedIsAllowed, StageIsTheLast, StageNeverFalls}
-use Rattle.voy_meta.specs.declared.record.MetaRecord.{MetaRecord}
-use Rattle.voy_meta.specs.declared.record.MetaRecord.TheVariants as entry
+use Rattle.voy_meta.specs.Growing.{Grows}
+use Rattle.voy_meta.specs.State.{after_record, state_after}
+use Rattle.voy_meta.specs.StateLaws.{NoFallBackIsSaid, NotRefusedIsAllowed, StageIsTheLast, StageNeverFalls, StagesNeverFall}
 use Rattle.voy_meta.specs.declared.stage.Stage.{Stage}
 use Rattle.voy_meta.specs.declared.stage.Stage.TheVariants.{Snapshot, Changes, TargetEnded, TargetDone, SourceEnded, SourceDone}
 use Rattle.voy_meta.specs.declared.stage.StageWhy.TheVariants.{SnapshotMissing, Already, TargetNotDone, NoFallBack}
 use Rattle.voy_meta.specs.declared.state.MetaState.{MetaState}
-use Rattle.voy_meta.proofs.KeepsLemmas.{consistency_is_kept, next_snapshot, not_all}
+use Rattle.voy_meta.proofs.GrowLemmas.{all_still, grows_by_all, grows_by_one}
+use Rattle.voy_meta.proofs.KeepsLemmas.{all_keep, consistency_is_kept}
 
 to_target : (v has : Bool) (r : Option Bool) → v ≡ true → (v && (has && is_none r)) ≡ is_none (first_reason ((not has, SnapshotMissing) ∷ (is_some r, Already side.Target) ∷ []))
 to_target false has r is = absurd (false≢true is)
@@ -139,69 +136,21 @@ stage_is_the_last s stage c = subst (λ b. (b ≡ true) ↔ (place_of stage ≤ 
     (last_by (has_snapshot s) s.ended_source s.done_target s.ended_target s.done_source
     (request_of_ended s c s.request_target refl) (c.done side.Target) (λ ended. (and_parts s.done_target (says_fall_back s.request_target) (c.ended_back ended)).0) (c.done side.Source) stage)
 
-snapshot_stays : (s : MetaState) (e : MetaRecord) → is_allowed s e ≡ true → has_snapshot s ≡ true → has_snapshot (after_record s e) ≡ true
-unfolding is_allowed after_record
-snapshot_stays s (entry.Snapshot table of bytes rows) passes all =
-    absurd (not_all s table of bytes rows (next_snapshot s table of bytes rows (and_parts (nat_lt 0 s.version) (snapshot_follows s table of bytes rows) passes).1) all)
-snapshot_stays s (entry.Version v) passes all = all
-snapshot_stays s (entry.Queue segment bytes last_vsn r spot closed ended) passes all = all
-snapshot_stays s (entry.Request to b) passes all = all
-snapshot_stays s (entry.Channels to count) passes all = all
-snapshot_stays s (entry.Finished to segment) passes all = all
-snapshot_stays s (entry.Done to) passes all = all
-snapshot_stays s entry.Loaded passes all = all
+reached_stays : (s t : MetaState) (stage : Stage) → Grows s t → is_reached stage s ≡ true → is_reached stage t ≡ true
+reached_stays s t Snapshot g is = refl
+reached_stays s t Changes g is = all_still s t g is
+reached_stays s t TargetEnded g is = (g.ended role.Source is).0
+reached_stays s t TargetDone g is = g.done side.Target is
+reached_stays s t SourceEnded g is = (g.ended role.Target is).0
+reached_stays s t SourceDone g is = g.done side.Source is
 
-ended_stays : (s : MetaState) (e : MetaRecord) (r : Role) → is_ended r s ≡ true → is_ended r (after_record s e) ≡ true
-unfolding after_record
-ended_stays s (entry.Queue segment bytes last_vsn role.Source spot closed ended) role.Source is = or_left s.ended_source ended is
-ended_stays s (entry.Queue segment bytes last_vsn role.Target spot closed ended) role.Source is = is
-ended_stays s (entry.Version v) role.Source is = is
-ended_stays s (entry.Snapshot table of bytes rows) role.Source is = is
-ended_stays s (entry.Request to b) role.Source is = is
-ended_stays s (entry.Channels to count) role.Source is = is
-ended_stays s (entry.Finished to segment) role.Source is = is
-ended_stays s (entry.Done to) role.Source is = is
-ended_stays s entry.Loaded role.Source is = is
-ended_stays s (entry.Queue segment bytes last_vsn role.Target spot closed ended) role.Target is = or_left s.ended_target ended is
-ended_stays s (entry.Queue segment bytes last_vsn role.Source spot closed ended) role.Target is = is
-ended_stays s (entry.Version v) role.Target is = is
-ended_stays s (entry.Snapshot table of bytes rows) role.Target is = is
-ended_stays s (entry.Request to b) role.Target is = is
-ended_stays s (entry.Channels to count) role.Target is = is
-ended_stays s (entry.Finished to segment) role.Target is = is
-ended_stays s (entry.Done to) role.Target is = is
-ended_stays s entry.Loaded role.Target is = is
-
-done_stays : (s : MetaState) (e : MetaRecord) (to : Side) → is_done to s ≡ true → is_done to (after_record s e) ≡ true
-unfolding after_record
-done_stays s (entry.Done side.Target) side.Target is = refl
-done_stays s (entry.Done side.Source) side.Target is = is
-done_stays s (entry.Version v) side.Target is = is
-done_stays s (entry.Snapshot table of bytes rows) side.Target is = is
-done_stays s (entry.Queue segment bytes last_vsn r spot closed ended) side.Target is = is
-done_stays s (entry.Request from b) side.Target is = is
-done_stays s (entry.Channels from count) side.Target is = is
-done_stays s (entry.Finished from segment) side.Target is = is
-done_stays s entry.Loaded side.Target is = is
-done_stays s (entry.Done side.Source) side.Source is = refl
-done_stays s (entry.Done side.Target) side.Source is = is
-done_stays s (entry.Version v) side.Source is = is
-done_stays s (entry.Snapshot table of bytes rows) side.Source is = is
-done_stays s (entry.Queue segment bytes last_vsn r spot closed ended) side.Source is = is
-done_stays s (entry.Request from b) side.Source is = is
-done_stays s (entry.Channels from count) side.Source is = is
-done_stays s (entry.Finished from segment) side.Source is = is
-done_stays s entry.Loaded side.Source is = is
-
-reached_stays : (s : MetaState) (e : MetaRecord) (stage : Stage) → is_allowed s e ≡ true → is_reached stage s ≡ true → is_reached stage (after_record s e) ≡ true
-reached_stays s e Snapshot passes is = refl
-reached_stays s e Changes passes is = snapshot_stays s e passes is
-reached_stays s e TargetEnded passes is = ended_stays s e role.Source is
-reached_stays s e TargetDone passes is = done_stays s e side.Target is
-reached_stays s e SourceEnded passes is = ended_stays s e role.Target is
-reached_stays s e SourceDone passes is = done_stays s e side.Source is
+never_falls : (s t : MetaState) → IsConsistent s → IsConsistent t → Grows s t → place_of (stage_of s) ≤ place_of (stage_of t)
+never_falls s t c d g =
+    let here : is_reached (stage_of s) s ≡ true = (stage_is_the_last s (stage_of s) c).1 (omega arith) in
+    (stage_is_the_last t (stage_of s) d).0 (reached_stays s t (stage_of s) g here)
 
 pub stage_never_falls : StageNeverFalls
-stage_never_falls s e c passes =
-    let here : is_reached (stage_of s) s ≡ true = (stage_is_the_last s (stage_of s) c).1 (omega arith) in
-    (stage_is_the_last (after_record s e) (stage_of s) (consistency_is_kept s e c passes)).0 (reached_stays s e (stage_of s) passes here)
+stage_never_falls s e c passes = never_falls s (after_record s e) c (consistency_is_kept s e c passes) (grows_by_one s e c passes)
+
+pub stages_never_fall : StagesNeverFall
+stages_never_fall s entries c passes = never_falls s (state_after s entries) c (all_keep s entries c passes) (grows_by_all s entries c passes)

@@ -123,10 +123,3 @@ pub record OpensWith (bytes : List ℕ) (known : Option (List MetaRecord)) : Typ
   pub entries : List MetaRecord
   pub has : HasRecords entries bytes
   pub known_is : known ≡ Some (opened entries)
-
--- the bytes are a journal of the records that are known, and that come to this state
-pub record ReadsRecords (bytes : List ℕ) (state : MetaState) (known : Option (List MetaRecord)) : Type 0 where
-  pub entries : List MetaRecord
-  pub has : HasRecords entries bytes
-  pub state_is : state ≡ state_of entries
-  pub known_is : known ≡ Some entries

@@ -60,3 +60,8 @@ StageIsTheLast = (state : MetaState) (stage : Stage) → IsConsistent state → 
 abbrev pub StageNeverFalls : Type 0
 StageNeverFalls = (state : MetaState) (entry : MetaRecord) → IsConsistent state → is_allowed state entry ≡ true
     → place_of (stage_of state) ≤ place_of (stage_of (after_record state entry))
+
+-- nor do many
+abbrev pub StagesNeverFall : Type 0
+StagesNeverFall = (state : MetaState) (entries : List MetaRecord) → IsConsistent state → allowed_after state entries ≡ true
+    → place_of (stage_of state) ≤ place_of (stage_of (state_after state entries))

@@ -1,5 +1,5 @@
 ghost use Rattle.voy_meta.specs.Growing.{GrowsByAll, GrowsByOne};
-ghost use Rattle.voy_meta.specs.StateLaws.{ClosedStays, ConsistencyIsKept, NoFallBackIsSaid, NotRefusedIsAllowed, OneMoreState, OneMoreTest, RecordsAreConsistent, StageIsTheLast, StageNeverFalls, StatesJoin, TestsJoin};
+ghost use Rattle.voy_meta.specs.StateLaws.{ClosedStays, ConsistencyIsKept, NoFallBackIsSaid, NotRefusedIsAllowed, OneMoreState, OneMoreTest, RecordsAreConsistent, StageIsTheLast, StageNeverFalls, StagesNeverFall, StatesJoin, TestsJoin};
 
 /// Law: what allowed records come to is consistent, and each allowed record keeps it so.
 pub fn consistent()
@@ -31,6 +31,7 @@ pub fn refusals_tell()
 pub fn stages_go_on()
     ensures last { StageIsTheLast }
     ensures on { StageNeverFalls }
+    ensures all { StagesNeverFall }
 {}
 
 /// Law: allowed records take nothing back: what is recorded, ended, asked for, counted, finished or done stays so, and

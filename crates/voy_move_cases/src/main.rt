@@ -5,8 +5,10 @@
 //! it with the file `stdout`, which comes from there too. A further case takes no proof.
 #![tactic(auto)]
 
+mod allowed;
 mod files;
 mod payloads;
+mod words;
 
 use std::alloc::Global;
 use std::io;
@@ -29,6 +31,8 @@ fn came_to(alloc: Global, case: &Case) -> Result<String, Trouble> {
     match case.kind {
         "payload" => payloads::payload(alloc, case),
         "metadata" => files::metadata(alloc, case),
+        "allowed" => allowed::allowed(alloc, case),
+        "state" => allowed::state(alloc, case),
         _ => Err(Trouble::Case("no such kind")),
     }
 }
