@@ -5,6 +5,7 @@
 //! order; the gate compares it with the file `stdout`, which comes from there too. A further case takes no proof.
 #![tactic(auto)]
 
+mod args;
 mod case;
 mod commands;
 mod disks;
@@ -91,6 +92,7 @@ fn came_to(alloc: Global, case: &Case) -> Result<String, Trouble> {
         "command" => commands::command(alloc, case),
         "words" => words::words(alloc, case),
         "folder" => words::folder(alloc, case),
+        "args" => args::args(alloc, case),
         _ => Err(Trouble::Case("no such kind")),
     }
 }
