@@ -1,8 +1,8 @@
 -- What the parts of a dry run make of its answer and of its output.
-use Rattle.std.proofs.Common.{◌≡◌, ℕ, Bool, true, false, ◌||◌, List, [], ◌++◌, Option, Some, None, refl, sym, ap, ◌∙◌, inl, inr, add-zero, subst, is_some, true≢false}
+use Rattle.std.proofs.Common.{◌≡◌, ℕ, Bool, true, false, ◌||◌, List, [], ◌++◌, Option, Some, None, refl, sym, ◌∙◌, inl, inr, add-zero, subst, is_some}
 use Rattle.voy_contents.specs.Tables.{lists_in, schema_in}
 use Rattle.voy_disk.specs.File.{File}
-use Rattle.voy_disk.specs.Files.{Files, bytes_now, length_of}
+use Rattle.voy_disk.specs.Files.{Files, length_of}
 use Rattle.voy_report.specs.Show.{tables_text}
 use Rattle.voy_command.specs.Commands.DryRun.{DryRunRefuses, DryRunWorks, dry_run_part}
 use Rattle.voy_command.specs.Commands.DryRun as own
@@ -11,33 +11,21 @@ use Rattle.voy_command.specs.Commands.DryRun.Outcome.{WithOutcome, end_answer, i
 use Rattle.voy_command.specs.Commands.DryRun.Printing.{fold_text}
 use Rattle.voy_command.specs.Commands.DryRun.Stops.{StopsDryRun}
 use Rattle.voy_command.specs.Course.{Course, DiskFailed, PrintsNothing, files_before}
-use Rattle.voy_command.specs.Files.{file_bytes}
 use Rattle.voy_command.specs.Part as part
 use Rattle.voy_command.specs.declared.answer.Answer.{Answer}
-use Rattle.voy_command.specs.declared.answer.Answer.TheVariants.{Done, Waiting, Shown, NoCommand, NoReading, Fault, NoMemory, Damaged, Invalid, Refused, OutputFault, TooLong, NotBuilt}
+use Rattle.voy_command.specs.declared.answer.Answer.TheVariants.{Invalid, Refused, TooLong, NotBuilt}
 use Rattle.voy_command.specs.declared.answer.FileName.TheVariants as file
-use Rattle.voy_command.specs.declared.answer.Unbuilt.TheVariants.{Command, Metadata}
+use Rattle.voy_command.specs.declared.answer.Unbuilt.TheVariants.{Metadata}
 use Rattle.voy_command.specs.declared.answer.Which.TheVariants.{Recording, Export}
 use Rattle.voy_command.specs.declared.commands.dry_run.fold.Fold.{Fold}
 
 -- an outcome that is a refusal is one of the dry run's
 refusal_refuses : (e r : Option Files) (a : Answer) → is_refusal a ≡ true → WithOutcome e r (λ o. o ≡ refusing a) → DryRunRefuses e r a
-refusal_refuses e r Done h o = cc
-refusal_refuses e r Waiting h o = cc
-refusal_refuses e r Shown h o = cc
-refusal_refuses e r NoCommand h o = cc
-refusal_refuses e r (NoReading phrase) h o = cc
-refusal_refuses e r (Fault disk) h o = cc
-refusal_refuses e r NoMemory h o = cc
-refusal_refuses e r (Damaged disk file offset) h o = cc
 refusal_refuses e r (Invalid vsn) h o = own.invalid o
 refusal_refuses e r (Refused cause) h o = own.refused o
-refusal_refuses e r OutputFault h o = cc
-refusal_refuses e r (TooLong file.Schema line) h o = cc
 refusal_refuses e r (TooLong file.Segment line) h o = own.too_long o
-refusal_refuses e r (TooLong file.Journal line) h o = cc
-refusal_refuses e r (NotBuilt (Command phrase)) h o = cc
 refusal_refuses e r (NotBuilt Metadata) h o = own.metadata o
+refusal_refuses e r other h o = cc
 
 -- a stop before the printing is what the dry run answers
 pub stop_comes : {D K : Type 0} (c : Course D K) (a : Answer)
@@ -64,21 +52,7 @@ fold_works e r f is = by_end f.ended (λ x is_x. λ y is_y. is x is_x y is_y ∙
   by_end true o = own.done o
   by_end false o = own.waiting o
 
-pub fold_works_as : (e r : Option Files) (f : Fold) (ended : Bool) → f.ended ≡ ended → WithOutcome e r (λ o. o ≡ outcome_from f [])
-    → DryRunWorks e r (end_answer ended) (fold_text f)
-fold_works_as e r f ended is outcome = subst (λ b. DryRunWorks e r (end_answer b) (fold_text f)) is (fold_works e r f outcome)
-
 -- a file has a length exactly where it is there
 pub has_length : (found : Option File) → is_some (length_of found) ≡ is_some found
 has_length None = refl
 has_length (Some file) = refl
-
--- a file that is not there has no bytes
-pub no_bytes : (found : Option File) → false ≡ is_some found → file_bytes found ≡ None
-no_bytes None absent = refl
-no_bytes (Some file) absent = absurd (true≢false (sym absent))
-
--- the bytes of a file that is there
-pub file_there : (file : Option File) (bytes : List ℕ) → true ≡ is_some file → bytes ≡ bytes_now file → file_bytes file ≡ Some bytes
-file_there None bytes there is = cc
-file_there (Some f) bytes there is = ap Some (sym is)

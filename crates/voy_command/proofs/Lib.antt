@@ -6,3 +6,4 @@ pub mod TextLaws
 pub mod ShowLaws
 pub mod PartLaws
 pub mod WordLaws
+pub mod RecordedLaws

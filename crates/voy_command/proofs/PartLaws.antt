@@ -1,13 +1,11 @@
 -- What every command's part makes of its answer, and what a place keeps.
 use Rattle.std.proofs.Common.{◌≡◌, ℕ, List, Option, refl, sym, inl, inr, subst}
-use Rattle.voy_disk.specs.ChangeLaws.{others_still}
 use Rattle.voy_disk.specs.Files.{Files}
 use Rattle.voy_disk.specs.Images.{ImagesOf}
 use Rattle.voy_disk.specs.Steps.{Follows}
 use Rattle.voy_disk.specs.declared.place.Place.{Place}
 use Rattle.voy_journal.specs.Journal.{KeepsPayloads}
 use Rattle.voy_store.specs.Stored.{store_name}
-use Rattle.voy_command.specs.Commands.Show.{KeepsStore}
 use Rattle.voy_command.specs.Course.{Course, OutFailed, Prints, PrintsFront}
 use Rattle.voy_command.specs.Part.{Comes, IsComplete, Part, disk_failed, no_memory, no_memory_to_print, out_failed, refused, worked}
 use Rattle.voy_command.specs.Place.{StaysAlike}
@@ -33,19 +31,15 @@ completes part c one none answer (out_failed works failed front) = λ b owed owe
 completes part c one none answer (no_memory same) = λ b owed owes no. inl refl
 completes part c one none answer (no_memory_to_print works front) = λ b owed owes no. inl refl
 
--- files that did not change
-pub keeps_store : (files : Option Files) → KeepsStore files files
-keeps_store files = record {
-  images = record { from = λ j now. record { before = j; was = now; by = record { payloads = refl; others = λ other not. refl } } };
-  others = others_still store_name files;
-  told = record { has = λ i was. (i, was) };
-}
+-- files that did not change keep their payloads
+pub same_files_keep : (files : Option Files) → Follows (KeepsPayloads store_name) (ImagesOf files) (ImagesOf files)
+same_files_keep files = record { from = λ j now. record { before = j; was = now; by = record { payloads = refl; others = λ other not. refl } } }
 
 -- a disk that is the same value keeps its payloads
 pub same_disk_keeps : {D : Type 0} (files : D → Option Files) (old new : D) → new ≡ old
     → Follows (KeepsPayloads store_name) (ImagesOf (files old)) (ImagesOf (files new))
 same_disk_keeps files old new same =
-    subst (λ disk. Follows (KeepsPayloads store_name) (ImagesOf (files old)) (ImagesOf (files disk))) (sym same) (keeps_store (files old)).images
+    subst (λ disk. Follows (KeepsPayloads store_name) (ImagesOf (files old)) (ImagesOf (files disk))) (sym same) (same_files_keep (files old))
 
 -- a place whose recording and export are as before, and whose stores keep their payloads
 pub stays_alike : {D : Type 0} (files : D → Option Files) (old new : Place D)

@@ -1,18 +1,24 @@
 -- What the parts of `show` make of its answer, and that it can print one text alone.
-use Rattle.std.proofs.Common.{◌≡◌, ℕ, ◌⊎◌, inl, inr, List, Option, Some, None, Ok, Err, refl, sym, ap, ◌∙◌, subst}
+use Rattle.std.proofs.Common.{◌≡◌, ◌↔◌, ℕ, ◌⊎◌, inl, inr, List, Option, Some, None, Ok, Err, refl, sym, ap, ◌∙◌, subst}
+use Rattle.voy_disk.specs.ChangeLaws.{others_still}
 use Rattle.voy_disk.specs.Faults.{Rose}
 use Rattle.voy_disk.specs.Files.{Files, IfTold, bytes_now}
+use Rattle.voy_disk.specs.Images.{ImagesOf}
 use Rattle.voy_disk.specs.declared.place.Place.{Place}
 use Rattle.voy_journal.specs.Grammar.{DamagedAt, HasPayloads, payloads_of}
 use Rattle.voy_report.specs.Show.{tables_text}
 use Rattle.voy_schema.specs.declared.table.Table.{Table}
+use Rattle.voy_store.specs.JournalLogs.{HasHistory}
+use Rattle.voy_store.specs.Opening.{TellsStored}
 use Rattle.voy_store.specs.Stored.{IsStoreDamaged, history_in, store_name}
 use Rattle.voy_store.specs.declared.open_error.OpenError.{OpenError}
 use Rattle.voy_store.specs.declared.open_error.OpenError.TheVariants as opening
 use Rattle.voy_tables.specs.declared.change.Side.{Side}
 use Rattle.voy_tables.specs.declared.change.Side.TheVariants.{Target, Source}
+use Rattle.voy_txn.specs.Commits.{IsOneHistory}
 use Rattle.voy_txn.specs.Contents.{contents_of}
-use Rattle.voy_command.specs.Commands.Show.{HasStoreText, KeepsStore, ShowCalls, ShowOwes, ShowRefuses, ShowWorks, StoresHaveOneText, has_text, no_schema, no_store, show_part, shown}
+use Rattle.voy_txn.specs.History.{History}
+use Rattle.voy_command.specs.Commands.Show.{HasStoreText, HasText, IsShown, KeepsStore, ShowCalls, ShowOwes, ShowRefuses, ShowWorks, ShowsText, StoresHaveOneText, has_text, no_schema, no_store, show_part, shown}
 use Rattle.voy_command.specs.Commands.Show as own
 use Rattle.voy_command.specs.Commands.Show.Stops.{StopsStore, open_stop}
 use Rattle.voy_command.specs.Course.{Course, DiskFailed, PrintsNothing, disk_at, files_after, files_before, store_at}
@@ -20,13 +26,13 @@ use Rattle.voy_command.specs.Files.{file_bytes, schema_name}
 use Rattle.voy_command.specs.Part.{Comes, Does, disk_failed, no_memory, refused}
 use Rattle.voy_command.specs.Place.{StaysAlike}
 use Rattle.voy_command.specs.Recorded.{recorded_schema}
-use Rattle.voy_command.specs.Stops.{RefusesSchema, StopsSchema}
+use Rattle.voy_command.specs.Stops.{StopsSchema}
 use Rattle.voy_command.specs.declared.answer.Answer.{Answer}
 use Rattle.voy_command.specs.declared.answer.Answer.TheVariants.{Shown}
 use Rattle.voy_command.specs.declared.answer.Cause.{Cause}
 use Rattle.voy_command.specs.declared.answer.Which.{Which}
 use Rattle.voy_command.specs.declared.answer.Which.TheVariants.{Recording, Export, Store}
-use Rattle.voy_command.proofs.PartLaws.{completes, same_disk_keeps, stays_alike}
+use Rattle.voy_command.proofs.PartLaws.{completes, same_disk_keeps, same_files_keep, stays_alike}
 
 -- ---- one text alone
 
@@ -70,12 +76,6 @@ stores_have_one_text read broken = record {
 
 -- ---- why a part stopped
 
--- a refusal of the schema, with a weaker reason
-pub refuses_schema : (a : Answer) (failed : Type 0) (why weaker : Cause → Type 0) → ((cause : Cause) → why cause → weaker cause)
-    → RefusesSchema why a → failed ⊎ RefusesSchema weaker a
-refuses_schema a failed why weaker weaken (inl memory) = inr (inl memory)
-refuses_schema a failed why weaker weaken (inr bad) = inr (inr (bad.0, bad.1, weaken bad.0 bad.2))
-
 -- a store that was not opened stops `show`
 pub opening_stops : (side : Side) (given schema : List Table) (store : Option Files) (before between after : ℕ) (why : OpenError)
     → given ≡ schema → between ≡ after
@@ -86,6 +86,27 @@ opening_stops side given schema store before between after opening.Fault same en
 opening_stops side given schema store before between after (opening.Damaged offset) same ends damaged fault =
     inr (inr (offset, refl, λ fs is. subst (λ tables. IsStoreDamaged tables (bytes_now (fs store_name)) offset) same (damaged offset refl fs is)))
 opening_stops side given schema store before between after opening.NoMemory same ends damaged fault = inl refl
+
+-- ---- a store that was read
+
+-- files that did not change
+pub keeps_store : (files : Option Files) → KeepsStore files files
+keeps_store files = record { images = same_files_keep files; others = others_still store_name files; told = record { has = λ i was. (i, was) } }
+
+-- the text of an opened store is that of the history which it tells, and a stop leaves just that history
+pub text_shows : (own given schema : List Table) (bytes text : List ℕ) (told : Option History) (images : Option History → Type 0) (between after : Option Files)
+    → own ≡ given → given ≡ schema → between ≡ after → TellsStored given bytes told
+    → ((history : History) → told ≡ Some history → text ≡ tables_text schema (contents_of schema history).tables)
+    → IsOneHistory told images → ((read : Option History) → images read ↔ HasHistory own (ImagesOf between) read)
+    → ShowsText schema bytes after text
+text_shows own given schema bytes text told images between after is_own same ends stored text_is one leaves =
+    let of_schema = subst (λ tables. TellsStored tables bytes told) same stored in
+    let left = subst (λ tables. (read : Option History) → images read ↔ HasHistory tables (ImagesOf after) read) (is_own ∙ same)
+    (subst (λ files. (read : Option History) → images read ↔ HasHistory own (ImagesOf files) read) ends leaves) in
+    record {
+      has = record { history = of_schema.history; stored = of_schema.stored; is = text_is of_schema.history of_schema.is };
+      alike = record { each = λ read has. sym (one.only read ((left read).1 has)) ∙ of_schema.is };
+    }
 
 -- ---- the answer
 
@@ -106,18 +127,22 @@ store_stop_comes side c schema a recorded (inr (inr broken)) same =
     subst (Comes (show_part side c) c) (sym broken.1)
     (refused (no_store (λ r is_r. λ s is_s. record { schema = schema; recorded = recorded r is_r; damaged = broken.2 s is_s })) same)
 
--- the text that was read is that of the store
-pub text_works : (recording store : Option Files) (schema : List Table) (text : List ℕ)
+-- the text that was read is that of the store, which reads alike in every image
+pub text_works : (recording before after : Option Files) (schema : List Table) (text : List ℕ)
     → IfTold recording (λ r. recorded_schema (file_bytes (r schema_name)) ≡ Ok schema)
-    → IfTold store (λ s. HasStoreText schema (bytes_now (s store_name)) text) → ShowWorks recording store Shown text
-text_works recording store schema text recorded has =
-    shown (λ r is_r. λ s is_s. record { schema = schema; recorded = recorded r is_r; has = has s is_s })
+    → IfTold before (λ s. ShowsText schema (bytes_now (s store_name)) after text) → ShowWorks recording before after Shown text
+text_works recording before after schema text recorded shows =
+    shown (λ r is_r. λ s is_s. record { schema = schema; recorded = recorded r is_r; shows = shows s is_s })
 
 -- ---- what is owed
 
-owed_is_shown : StoresHaveOneText → (recording store : Option Files) (a b : Answer) (text other : List ℕ)
-    → ShowOwes recording store a text → ShowWorks recording store b other → (b ≡ a) × (other ≡ text)
-owed_is_shown law recording store a b text other (has_text {r} {s} is_r is_s has) (shown works) = (refl, law.one r s text other has (works r is_r s is_s))
+text_shown : (recording before : Files) (after : Option Files) (text : List ℕ) → IsShown recording before after text → HasText recording before text
+text_shown recording before after text is = record { schema = is.schema; recorded = is.recorded; has = is.shows.has }
+
+owed_is_shown : StoresHaveOneText → (recording before after : Option Files) (a b : Answer) (text other : List ℕ)
+    → ShowOwes recording before a text → ShowWorks recording before after b other → (b ≡ a) × (other ≡ text)
+owed_is_shown law recording before after a b text other (has_text {r} {s} is_r is_s has) (shown works) =
+    (refl, law.one r s text other has (text_shown r s after other (works r is_r s is_s)))
 
 owed_is_no_refusal : StoresHaveOneText → (side : Side) (recording store : Option Files) (a b : Answer) (text : List ℕ)
     → ShowOwes recording store a text → ShowRefuses side recording store b → ⊥
@@ -156,7 +181,7 @@ pub does_show : {D K : Type 0} → StoresHaveOneText → (side : Side) (c : Cour
     → Does (show_part side c) c a
 does_show law side c a comes recording export store other = record {
   comes = comes;
-  complete = completes (show_part side c) c (owed_is_shown law _ _) (owed_is_no_refusal law side _ _) a comes;
+  complete = completes (show_part side c) c (owed_is_shown law _ _ _) (owed_is_no_refusal law side _ _) a comes;
   recording = recording;
   closed = closed side c.old.place c.new.place export other;
   leaves = store;

@@ -1,5 +1,7 @@
-ghost use Rattle.std.specs.Prelude.{◌≡◌, IfOk};
+ghost use Rattle.std.specs.Prelude.{◌≡◌, ◌≢◌, ◌⊎◌, IfErr, IfOk};
 ghost use Rattle.voy_disk.specs.HostDisk.{host_disk_folder};
+ghost use Rattle.voy_disk.specs.Written.{GotFront};
+ghost use Rattle.voy_command.specs.Answer.{status_of, text_on_err};
 ghost use Rattle.voy_command.specs.Words.{IsBelow, folder_below};
 
 use crate::answer::Answer;
@@ -7,7 +9,8 @@ use crate::commands::run;
 use std::alloc::{AllocError, Global};
 use std::env;
 use std::io::ErrorKind;
-use voy_disk::{HostDisk, HostSink, Place};
+use std::rt::Env;
+use voy_disk::{HostDisk, HostSink, Place, Sink};
 use voy_words::export_dir;
 
 /// Runs the program over the folders below the one that its words name, and gives the exit status.
@@ -16,33 +19,25 @@ pub fn start(rt: HostRuntime) -> u8 {
     let mut err = HostSink::err(rt.stderr());
     let words = match words_of(&rt) {
         Ok(words) => words,
-        Err(refused) => {
-            refused.tell(rt.alloc(), &mut err);
-            return refused.status();
-        }
+        Err(stop) => return refuse(rt.alloc(), stop, &mut err),
     };
     let Some(folder) = export_dir(&words) else {
-        Answer::NoCommand.tell(rt.alloc(), &mut err);
-        return Answer::NoCommand.status();
+        return refuse(rt.alloc(), Answer::NoCommand, &mut err);
     };
     let Ok(mut place) = place_below(rt, folder) else {
-        Answer::NoMemory.tell(rt.alloc(), &mut err);
-        return Answer::NoMemory.status();
+        return refuse(rt.alloc(), Answer::NoMemory, &mut err);
     };
     let command = words.get(2..).unwrap_or(&[]);
     run(rt.alloc(), command, &mut place, &mut out, &mut err)
 }
 
-/// The words behind the program's name. Where one of them is not UTF-8, there is no command.
-fn words_of(rt: &HostRuntime) -> Result<Vec<String>, Answer> {
+/// The words behind the program's name. Where one of its arguments is not UTF-8, they are no command.
+pub fn words_of<R: Env + AllocGlobal>(rt: &R) -> Result<Vec<String>, Answer>
+    ensures { IfErr result (λ a. (a ≡ Answer.NoCommand) ⊎ (a ≡ Answer.NoMemory)) }
+{
     let args = match env::args(rt) {
         Ok(args) => args,
-        Err(error) => {
-            return Err(match error.kind() {
-                ErrorKind::InvalidData => Answer::NoCommand,
-                _ => Answer::NoMemory,
-            });
-        }
+        Err(error) => return Err(unread_args(error.kind())),
     };
     let mut words = Vec::new(rt.alloc());
     for word in args.skip(1) {
@@ -51,6 +46,26 @@ fn words_of(rt: &HostRuntime) -> Result<Vec<String>, Answer> {
         }
     }
     Ok(words)
+}
+
+/// What is answered where the arguments cannot be had. `InvalidData` is that of arguments that are not UTF-8.
+fn unread_args(kind: ErrorKind) -> Answer
+    ensures no_text { kind ≡ ErrorKind.InvalidData → result ≡ Answer.NoCommand }
+    ensures no_memory { kind ≢ ErrorKind.InvalidData → result ≡ Answer.NoMemory }
+{
+    match kind {
+        ErrorKind::InvalidData => Answer::NoCommand,
+        _ => Answer::NoMemory,
+    }
+}
+
+/// Tells an answer to a program that did nothing, and gives its exit status.
+pub fn refuse<K: Sink>(alloc: Global, answer: Answer, err: &mut K) -> u8
+    ensures status { result ≡ status_of answer }
+    ensures told { GotFront (text_on_err answer) (K.written err.old) (K.written err.new) }
+{
+    answer.tell(alloc, err);
+    answer.status()
 }
 
 /// The four disks below a folder, each a folder of its name.

@@ -23,5 +23,5 @@ mod recorded;
 
 pub use answer::{Answer, Cause, FileName, Unbuilt, Which};
 pub use commands::{Task, command, run};
-pub use host::start;
+pub use host::{refuse, start, words_of};
 pub use laws::{stores_have_one_text, valid_streams_fold};

@@ -5,6 +5,7 @@
 //! order; the gate compares it with the file `stdout`, which comes from there too. A further case takes no proof.
 #![tactic(auto)]
 
+mod args;
 mod commands;
 
 use std::alloc::Global;
@@ -27,6 +28,7 @@ fn main(rt: HostRuntime) -> io::Result<()> {
 fn came_to(alloc: Global, case: &Case) -> Result<String, Trouble> {
     match case.kind {
         "command" => commands::command(alloc, case),
+        "args" => args::args(alloc, case),
         _ => Err(Trouble::Case("no such kind")),
     }
 }

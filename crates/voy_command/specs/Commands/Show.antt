@@ -9,6 +9,7 @@ use Rattle.voy_disk.specs.Steps.{Follows, StaysTold}
 use Rattle.voy_journal.specs.Journal.{KeepsPayloads}
 use Rattle.voy_report.specs.Show.{tables_text}
 use Rattle.voy_schema.specs.declared.table.Table.{Table}
+use Rattle.voy_store.specs.JournalLogs.{HasHistory}
 use Rattle.voy_store.specs.Stored.{IsStored, IsStoreDamaged, store_name}
 use Rattle.voy_tables.specs.declared.change.Side.{Side}
 use Rattle.voy_txn.specs.Contents.{contents_of}
@@ -47,9 +48,24 @@ pub record StoresHaveOneText : Type 0 where
   pub one : (recording store : Files) (text other : List ℕ) → HasText recording store text → HasText recording store other → other ≡ text
   pub none : (recording store : Files) (text : List ℕ) (offset : ℕ) → HasText recording store text → HasDamage recording store offset → ⊥
 
+-- by this schema, whatever a stop leaves of the store reads as this history
+pub record ReadsAsOne (schema : List Table) (history : History) (store : Option Files) : Type 0 where
+  pub each : (read : Option History) → HasHistory schema (ImagesOf store) read → read ≡ Some history
+
+-- these bytes are the journal of a store with tables that have this text, and the store then reads as one history, that of the text
+pub record ShowsText (schema : List Table) (bytes : List ℕ) (after : Option Files) (text : List ℕ) : Type 0 where
+  pub has : HasStoreText schema bytes text
+  pub alike : ReadsAsOne schema has.history after
+
+-- the recording states a schema, and by it the store has this text and then reads alike in every image
+pub record IsShown (recording before : Files) (after : Option Files) (text : List ℕ) : Type 0 where
+  pub schema : List Table
+  pub recorded : recorded_schema (file_bytes (recording schema_name)) ≡ Ok schema
+  pub shows : ShowsText schema (bytes_now (before store_name)) after text
+
 -- the answer to a store that was shown
-pub data ShowWorks (recording store : Option Files) : Answer → List ℕ → Type 0 where
-  shown : {text : List ℕ} → IfTold recording (λ r. IfTold store (λ s. HasText r s text)) → ShowWorks recording store Shown text
+pub data ShowWorks (recording before after : Option Files) : Answer → List ℕ → Type 0 where
+  shown : {text : List ℕ} → IfTold recording (λ r. IfTold before (λ s. IsShown r s after text)) → ShowWorks recording before after Shown text
 
 -- the schema is refused for just this cause, or the journal damaged at just this gate
 pub data ShowRefuses (side : Side) (recording store : Option Files) : Answer → Type 0 where
@@ -73,7 +89,7 @@ pub record KeepsStore (old new : Option Files) : Type 0 where
 
 abbrev pub show_part : {D K : Type 0} → Side → Course D K → Part
 show_part side c = record {
-  works = ShowWorks (files_before Recording c) (files_before (Store side) c);
+  works = ShowWorks (files_before Recording c) (files_before (Store side) c) (files_after (Store side) c);
   refuses = ShowRefuses side (files_before Recording c) (files_before (Store side) c);
   owes = ShowOwes (files_before Recording c) (files_before (Store side) c);
   calls = ShowCalls side;

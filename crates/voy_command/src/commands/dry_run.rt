@@ -3,7 +3,7 @@ ghost use Rattle.voy_disk.specs.Faults.{Rose};
 ghost use Rattle.voy_disk.specs.Files.{IfTold};
 ghost use Rattle.voy_command.specs.Commands.DryRun.{dry_run_part};
 ghost use Rattle.voy_command.specs.Commands.DryRun.Folding.{outcome_from};
-ghost use Rattle.voy_command.specs.Commands.DryRun.Outcome.{WithOutcome};
+ghost use Rattle.voy_command.specs.Commands.DryRun.Outcome.{WithOutcome, end_answer};
 ghost use Rattle.voy_command.specs.Commands.DryRun.Stops.{StopsBy, StopsDryRun};
 ghost use Rattle.voy_command.specs.Course.{Course};
 ghost use Rattle.voy_command.specs.Files.{metadata_name};
@@ -45,11 +45,14 @@ pub fn dry_run<D: Disk, K: Sink>(alloc: Global, place: &mut Place<D>, out: &mut 
     if let Err(stop) = print_fold(alloc, &fold, out) {
         return stop;
     }
-    if fold.ended {
-        Answer::Done
-    } else {
-        Answer::Waiting
-    }
+    end_answer(fold.ended)
+}
+
+/// What is answered of a segment that was folded to its end.
+fn end_answer(ended: bool) -> Answer
+    ensures { result ≡ end_answer ended }
+{
+    if ended { Answer::Done } else { Answer::Waiting }
 }
 
 /// The fold of the exported segment by the recorded schema.

@@ -1,11 +1,12 @@
-ghost use Rattle.std.specs.Prelude.{◌≡◌, Some, IfErr, IfOk};
+ghost use Rattle.std.specs.Prelude.{◌≡◌, true, Some, IfErr, IfOk};
 ghost use Rattle.voy_disk.specs.Faults.{Rose};
 ghost use Rattle.voy_disk.specs.Files.{IfTold, bytes_now};
 ghost use Rattle.voy_report.specs.Show.{tables_text};
 ghost use Rattle.voy_store.specs.Stored.{store_name};
+ghost use Rattle.voy_txn.specs.Commits.{IsOneHistory};
 ghost use Rattle.voy_txn.specs.Contents.{contents_of};
 ghost use Rattle.voy_txn.specs.History.{History};
-ghost use Rattle.voy_command.specs.Commands.Show.{HasStoreText, KeepsStore, show_part};
+ghost use Rattle.voy_command.specs.Commands.Show.{KeepsStore, ShowsText, show_part};
 ghost use Rattle.voy_command.specs.Commands.Show.Stops.{StopsStore, open_stop};
 ghost use Rattle.voy_command.specs.Course.{Course, store_at};
 ghost use Rattle.voy_command.specs.Part.{Does};
@@ -64,7 +65,8 @@ fn read_side<D: Disk>(
     target: &mut D,
     source: &mut D,
 ) -> Result<Bytes, Answer>
-    ensures ok { IfOk result (λ text. IfTold (D.files (store_at side target.old source.old)) (λ fs. HasStoreText schema.tables (bytes_now (fs store_name)) text)) }
+    ensures ok { IfOk result (λ text. IfTold (D.files (store_at side target.old source.old)) (λ fs.
+        ShowsText schema.tables (bytes_now (fs store_name)) (D.files (store_at side target.new source.new)) text)) }
     ensures err { IfErr result (StopsStore side schema.tables (D.files (store_at side target.old source.old))
         (Rose (D.faults (store_at side target.old source.old)) (D.faults (store_at side target.new source.new)))) }
     ensures store { KeepsStore (D.files (store_at side target.old source.old)) (D.files (store_at side target.new source.new)) }
@@ -83,7 +85,7 @@ fn read_store<D: Disk>(
     schema: Schema,
     disk: &mut D,
 ) -> Result<Bytes, Answer>
-    ensures ok { IfOk result (λ text. IfTold (D.files disk.old) (λ fs. HasStoreText schema.tables (bytes_now (fs store_name)) text)) }
+    ensures ok { IfOk result (λ text. IfTold (D.files disk.old) (λ fs. ShowsText schema.tables (bytes_now (fs store_name)) (D.files disk.new) text)) }
     ensures err { IfErr result (StopsStore side schema.tables (D.files disk.old) (Rose (D.faults disk.old) (D.faults disk.new))) }
     ensures store { KeepsStore (D.files disk.old) (D.files disk.new) }
 {
@@ -100,9 +102,12 @@ fn read_store<D: Disk>(
     }
 }
 
-/// The text of a store, which is that of its history where it tells one.
+/// The text of a store, which is that of its history where it tells one. A stop leaves just that history.
 fn text_of<S: Store>(alloc: Global, schema: &Schema, store: &S) -> Result<Bytes, Answer>
-    requires { schema.now.tables ≡ S.schema store.now }
+    requires schema { schema.now.tables ≡ S.schema store.now }
+    requires live { S.is_live store.now ≡ true }
+    requires stands { S.stands store.now }
+    ensures one { IsOneHistory (S.history store.now) (S.images store.now) }
     ensures ok { IfOk result (λ text. (history : History) → S.history store.now ≡ Some history
         → text ≡ tables_text schema.now.tables (contents_of schema.now.tables history).tables) }
     ensures err { IfErr result (λ stop. stop ≡ Answer.NoMemory) }

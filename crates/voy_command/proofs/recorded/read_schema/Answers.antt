@@ -4,8 +4,7 @@ use Rattle.voy_disk.specs.Files.{Files, bytes_now}
 use Rattle.voy_command.specs.Files.{file_bytes, schema_name}
 use Rattle.voy_command.specs.declared.answer.Cause.TheVariants.{MissingSchema}
 use Rattle.voy_command.specs.Recorded.{recorded_schema}
-use Rattle.voy_command.proofs.DryRunLaws.{file_there, no_bytes}
-use Rattle.voy_command.proofs.ShowLaws.{refuses_schema}
+use Rattle.voy_command.proofs.RecordedLaws.{file_there, no_bytes, refuses_schema}
 use Rattle.voy_command.proofs.recorded.read_schema.Given.{Over}
 use Rattle.voy_command.proofs.recorded.read_schema.Goals as goal
 

@@ -13,11 +13,11 @@ use Rattle.voy_tables.specs.Lists.{empty_lists}
 use Rattle.voy_command.specs.Recorded.{recorded_schema}
 use Rattle.voy_command.specs.Commands.DryRun.Segment.{Queue, event_lines, folded, queue_of}
 use Rattle.voy_command.specs.declared.answer.Answer.{Answer}
-use Rattle.voy_command.specs.declared.answer.Answer.TheVariants.{Done, Waiting, Shown, NoCommand, NoReading, Fault, NoMemory, Damaged, Invalid, Refused, OutputFault, TooLong, NotBuilt}
+use Rattle.voy_command.specs.declared.answer.Answer.TheVariants.{Done, Waiting, Invalid, Refused, TooLong, NotBuilt}
 use Rattle.voy_command.specs.declared.answer.Cause.{Cause}
 use Rattle.voy_command.specs.declared.answer.Cause.TheVariants.{Segment}
 use Rattle.voy_command.specs.declared.answer.FileName.TheVariants as file
-use Rattle.voy_command.specs.declared.answer.Unbuilt.TheVariants.{Command, Metadata}
+use Rattle.voy_command.specs.declared.answer.Unbuilt.TheVariants.{Metadata}
 use Rattle.voy_command.specs.Files.{file_bytes, metadata_name, schema_name, segment_name}
 
 -- an answer with the text on `out`
@@ -89,19 +89,8 @@ WithOutcome export recording P = IfTold export (λ e. IfTold recording (λ r. P 
 
 -- an answer that the files give, and that prints nothing
 abbrev pub is_refusal : Answer → Bool
-is_refusal Done = false
-is_refusal Waiting = false
-is_refusal Shown = false
-is_refusal NoCommand = false
-is_refusal (NoReading phrase) = false
-is_refusal (Fault disk) = false
-is_refusal NoMemory = false
-is_refusal (Damaged disk file offset) = false
 is_refusal (Invalid vsn) = true
 is_refusal (Refused cause) = true
-is_refusal OutputFault = false
-is_refusal (TooLong file.Schema line) = false
 is_refusal (TooLong file.Segment line) = true
-is_refusal (TooLong file.Journal line) = false
-is_refusal (NotBuilt (Command phrase)) = false
 is_refusal (NotBuilt Metadata) = true
+is_refusal other = false

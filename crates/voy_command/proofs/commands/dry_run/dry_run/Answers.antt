@@ -1,8 +1,8 @@
-use Rattle.std.proofs.Common.{refl, true, false}
+use Rattle.std.proofs.Common.{refl}
 use Rattle.voy_command.specs.Commands.DryRun.Outcome.{end_answer}
 use Rattle.voy_command.specs.Commands.DryRun.Printing.{fold_text}
 use Rattle.voy_command.specs.Part.{worked}
-use Rattle.voy_command.proofs.DryRunLaws.{fold_works, fold_works_as, stop_comes}
+use Rattle.voy_command.proofs.DryRunLaws.{fold_works, stop_comes}
 use Rattle.voy_command.proofs.PartLaws.{output_stop_comes}
 use Rattle.voy_command.proofs.ValidLaws.{does_dry_run}
 use Rattle.voy_command.proofs.commands.dry_run.dry_run.Goals as goal
@@ -19,14 +19,9 @@ returns-in-Err-print_fold g c =
     c.in-Err-print_fold.ensures.front c.in-Err-print_fold.ensures.err)
     c.in-Ok.ensures.recording c.in-Ok.ensures.export refl refl
 
-pub returns-then-fold : goal.returns-then-fold
-returns-then-fold g c =
-    does_dry_run c.valid_streams_fold.ensures _ _
-    (worked (fold_works_as _ _ c.in-Ok.fold true c.if-fold.true c.in-Ok.ensures.ok) c.in_default.ensures.ok)
-    c.in-Ok.ensures.recording c.in-Ok.ensures.export refl refl
-
 pub returns : goal.returns
 returns g c =
-    does_dry_run c.valid_streams_fold.ensures _ _
-    (worked (fold_works_as _ _ c.in-Ok.fold false c.if-fold.false c.in-Ok.ensures.ok) c.in_default.ensures.ok)
-    c.in-Ok.ensures.recording c.in-Ok.ensures.export refl refl
+    rw c.end_answer.ensures
+    (does_dry_run c.valid_streams_fold.ensures _ _
+    (worked (fold_works _ _ c.in-Ok.fold c.in-Ok.ensures.ok) c.in_default.ensures.ok)
+    c.in-Ok.ensures.recording c.in-Ok.ensures.export refl refl)

@@ -10,7 +10,7 @@ use Rattle.voy_command.specs.Files.{file_bytes, segment_name}
 use Rattle.voy_command.specs.Commands.DryRun.Folding.{outcome_from, unread_lines}
 use Rattle.voy_command.specs.Commands.DryRun.Segment.{event_lines}
 use Rattle.voy_command.specs.declared.commands.dry_run.fold.Fold.{Fold}
-use Rattle.voy_command.proofs.DryRunLaws.{no_bytes}
+use Rattle.voy_command.proofs.RecordedLaws.{no_bytes}
 use Rattle.voy_command.proofs.SegmentLaws.{begins, file_lines, rose_from, stops_along}
 use Rattle.voy_command.proofs.commands.dry_run.segment.fold_segment.Goals as goal
 use Rattle.voy_contents.specs.Tables.{lists_in, schema_in}
