@@ -1,5 +1,5 @@
 -- What the parts of a dry run make of its answer and of its output.
-use Rattle.std.proofs.Common.{◌≡◌, ℕ, Bool, true, false, ◌||◌, List, [], ◌++◌, Option, Some, None, refl, sym, ◌∙◌, inl, inr, add-zero, subst, is_some}
+use Rattle.std.proofs.Common.{◌≡◌, Bool, true, false, ◌||◌, [], ◌++◌, Option, Some, None, refl, sym, ◌∙◌, inl, inr, add-zero, subst, is_some}
 use Rattle.voy_contents.specs.Tables.{lists_in, schema_in}
 use Rattle.voy_disk.specs.File.{File}
 use Rattle.voy_disk.specs.Files.{Files, length_of}

@@ -1,5 +1,5 @@
 -- What the reading of a file, and of the recorded schema, makes of an answer.
-use Rattle.std.proofs.Common.{◌≡◌, ℕ, Bool, true, false, ◌⊎◌, inl, inr, List, Option, Some, None, refl, sym, ap, is_some, true≢false}
+use Rattle.std.proofs.Common.{◌≡◌, ℕ, true, false, ◌⊎◌, inl, inr, List, Option, Some, None, refl, sym, ap, is_some, true≢false}
 use Rattle.voy_disk.specs.File.{File}
 use Rattle.voy_disk.specs.Files.{bytes_now}
 use Rattle.voy_command.specs.Files.{file_bytes}

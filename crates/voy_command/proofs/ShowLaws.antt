@@ -1,5 +1,5 @@
 -- What the parts of `show` make of its answer, and that it can print one text alone.
-use Rattle.std.proofs.Common.{◌≡◌, ◌↔◌, ℕ, ◌⊎◌, inl, inr, List, Option, Some, None, Ok, Err, refl, sym, ap, ◌∙◌, subst}
+use Rattle.std.proofs.Common.{◌≡◌, ◌↔◌, ℕ, inl, inr, List, Option, Some, None, Ok, Err, refl, sym, ap, ◌∙◌, subst}
 use Rattle.voy_disk.specs.ChangeLaws.{others_still}
 use Rattle.voy_disk.specs.Faults.{Rose}
 use Rattle.voy_disk.specs.Files.{Files, IfTold, bytes_now}
@@ -29,7 +29,6 @@ use Rattle.voy_command.specs.Recorded.{recorded_schema}
 use Rattle.voy_command.specs.Stops.{StopsSchema}
 use Rattle.voy_command.specs.declared.answer.Answer.{Answer}
 use Rattle.voy_command.specs.declared.answer.Answer.TheVariants.{Shown}
-use Rattle.voy_command.specs.declared.answer.Cause.{Cause}
 use Rattle.voy_command.specs.declared.answer.Which.{Which}
 use Rattle.voy_command.specs.declared.answer.Which.TheVariants.{Recording, Export, Store}
 use Rattle.voy_command.proofs.PartLaws.{completes, same_disk_keeps, same_files_keep, stays_alike}

@@ -11,9 +11,9 @@ pub returns-in-Ok-open-clause-ok : goal.returns-in-Ok-open-clause-ok
 returns-in-Ok-open-clause-ok g c =
     IfOk-weaker c.text_of-text.result _ _
     (λ text text_is. λ fs is.
-        text_shows _ c.in-Ok.of_store.tables c.args.schema.tables _ text _ _ (g.D.Disk.files c.into_disk-disk.result.now) _ c.in-Ok-open.ensures.schema
-        (ap (λ (schema : Schema). schema.tables) c.in-Ok.ensures) (search rules) (c.in-Ok-open.ensures.stored fs is) text_is c.text_of-text.ensures.one
-        c.into_disk-disk.ensures.images)
+    text_shows _ c.in-Ok.of_store.tables c.args.schema.tables _ text _ _ (g.D.Disk.files c.into_disk-disk.result.now) _ c.in-Ok-open.ensures.schema
+    (ap (λ (schema : Schema). schema.tables) c.in-Ok.ensures) (search rules) (c.in-Ok-open.ensures.stored fs is) text_is c.text_of-text.ensures.one
+    c.into_disk-disk.ensures.images)
     c.text_of-text.ensures.ok
 
 pub returns-clause-err : goal.returns-clause-err
