@@ -145,19 +145,20 @@ impl Meta {
 
         // where the stage does not allow it
         ensures refused { (why : _) → (result ≡ Err (RequestError.Refused why)) ↔ (request_refusal side (meta_state self.old) ≡ Some why) }
-        ensures unchanged { is_some (request_refusal side (meta_state self.old)) ≡ true → self.new ≡ self.old }
-        ensures untouched { is_some (request_refusal side (meta_state self.old)) ≡ true → disk.new ≡ disk.old }
+        ensures unchanged { IfErr result (λ error. (why : _) → error ≡ RequestError.Refused why → self.new ≡ self.old) }
+        ensures untouched { IfErr result (λ error. (why : _) → error ≡ RequestError.Refused why → disk.new ≡ disk.old) }
+        ensures still { IfErr result (λ error. (why : _) → error ≡ RequestError.Refused why → IsTrue (is_live self.new)) }
         // after Ok
         ensures all { DoesAll AddsRecords (Request side fall_back ∷ []) result (ImagesOf (D.files disk.old)) (ImagesOf (D.files disk.new)) }
         ensures adds { OnOk result (known_records self.new (D.files disk.new) ≡ option_map (λ entries. entries ++ Request side fall_back ∷ []) (known_records self.old (D.files disk.old))) }
         ensures exact { OnOk result (Change (AppendsEntry meta_name (meta_gate self.old) (payload_of (Request side fall_back))) (D.files disk.old) (D.files disk.new)) }
         ensures state { OnOk result (meta_state self.new ≡ after_record (meta_state self.old) (Request side fall_back)) }
-        ensures stands { OnOk result (MetaStands self.new (D.files disk.new)) }
         ensures live { OnOk result (IsTrue (is_live self.new)) }
         // after an error
         ensures same { OnErr result (meta_state self.new ≡ meta_state self.old) }
         ensures dead { OnErr result (request_refusal side (meta_state self.old) ≡ None → IsFalse (is_live self.new)) }
         // whatever it answers
+        ensures stands { IsTrue (is_live self.new) → MetaStands self.new (D.files disk.new) }
         ensures prefix { LeavesPrefix AddsRecords (Request side fall_back ∷ []) (ImagesOf (D.files disk.old)) (ImagesOf (D.files disk.new)) }
         ensures others { Change (KeepsOtherFiles meta_name) (D.files disk.old) (D.files disk.new) }
         ensures told { StaysTold (ImagesOf (D.files disk.old)) (ImagesOf (D.files disk.new)) }
