@@ -1,5 +1,5 @@
 -- What an allowed Queue record says, and what it makes of the segments.
-use Rattle.std.proofs.Common.{◌≡◌, ◌+◌, ◌-◌, ◌<◌, ◌≤◌, ◌⊎◌, inl, inr, ℕ, zero, suc, Bool, true, false, List, [], ◌∷◌, ◌++◌, Option, Some, None, length, take, refl, sym, ap, ◌∙◌, subst, arith}
+use Rattle.std.proofs.Common.{◌≡◌, ◌-◌, ◌<◌, ◌≤◌, ◌⊎◌, inl, inr, ℕ, suc, Bool, true, false, List, [], ◌∷◌, ◌++◌, Option, Some, None, length, take, refl, sym, ap, ◌∙◌, subst, arith}
 use Rattle.std.proofs.lemmas.Bool.{and_parts, eqb-true, false≢true, false_from_ne_true, leb-true, ltb-true}
 use Rattle.std.proofs.lemmas.Option.{none-some, same_Some}
 use Rattle.std.specs.List.{list_any}
@@ -10,12 +10,11 @@ use Rattle.voy_tables.specs.declared.change.Side.TheVariants as side
 use Rattle.voy_tables.specs.declared.change.Spot.{Spot}
 use Rattle.voy_meta.specs.Allowed.{goes_on, has_fall_back, has_snapshot, is_within, may_end, queue_follows, says_fall_back, segment_follows, spot_follows, vsn_before, vsn_follows, writes}
 use Rattle.voy_meta.specs.Sides.{is_ended, is_role, last_of, last_segment, leads_to, request_of}
-use Rattle.voy_meta.specs.Stands.{IsBefore, IsConsistent, IsInTurn, IsLawful, IsSegment, ends_part}
-use Rattle.voy_meta.specs.StateLaws.{OpenIsTheWriters, SegmentsInOrder}
+use Rattle.voy_meta.specs.Stands.{IsConsistent, IsInTurn, IsLawful, IsSegment, ends_part}
 use Rattle.voy_meta.specs.declared.limits.TheConstants.{MAX_SEGMENT, MAX_VSN}
 use Rattle.voy_meta.specs.declared.state.MetaState.{MetaState}
 use Rattle.voy_meta.specs.declared.state.SegmentState.{SegmentState}
-use Rattle.voy_meta.proofs.PutLemmas.{any_of_none, any_push, any_replace, get_put, item_at, length_put, none_without_last, put_front, put_there, within_from}
+use Rattle.voy_meta.proofs.PutLemmas.{any_of_none, any_push, any_replace, get_put, length_put, none_without_last, put_front, put_there, within_from}
 
 -- the number behind all segments, the last of which is closed, if there is one
 abbrev pub IsNext : MetaState → ℕ → Type 0
@@ -144,9 +143,6 @@ same_role s n last r c there is unshut may = by last.role refl r may where
   by role.Source was role.Target may =
       let ended : last.ended ≡ true = sym (c.last_ends role.Source last is was) ∙ (writes_back s may).source in
       absurd (false≢true (sym unshut ∙ (c.lawful n last there).shut ended))
-
-pub open_is_the_writers : OpenIsTheWriters
-open_is_the_writers s last r c is unshut may = same_role s (length s.segments - 1) last r c is is unshut may
 
 -- the next segment stands in turn behind the last one
 next_turn : (s : MetaState) (n : ℕ) (a new : SegmentState) → IsConsistent s → IsSegment s n a → last_segment s ≡ Some a → a.closed ≡ true → a.last_vsn ≤ new.last_vsn
@@ -278,25 +274,3 @@ put_closed s segment new spot q n x there shut = put_front s.segments segment ne
       let here : suc segment ≡ length s.segments = on.1 in
       let apart : (n ≡ segment) → ⊥ = other on in
       omega (arith, inside)
-
--- segments at a distance stand in order
-apart : (s : MetaState) (k m n : ℕ) (a b : SegmentState) → IsConsistent s → n ≡ m + suc k → IsSegment s m a → IsSegment s n b → IsBefore a b
-apart s zero m n a b c at a_there b_there =
-    let next : suc m ≡ n = omega arith in
-    let t : IsInTurn a b = c.in_turn m a b a_there (ap (slice_get s.segments) next ∙ b_there) in
-    record { closed = t.closed; rises = t.rises; order = t.order; end = t.end }
-apart s (suc k) m n a b c at a_there b_there =
-    let inside : n < length s.segments = within_from s.segments n b b_there in
-    let between : (x : SegmentState) × (slice_get s.segments (m + suc k) ≡ Some x) = item_at s.segments (m + suc k) (omega arith) in
-    let first : IsBefore a between.0 = apart s k m (m + suc k) a between.0 c refl a_there between.1 in
-    let next : suc (m + suc k) ≡ n = omega arith in
-    let t : IsInTurn between.0 b = c.in_turn (m + suc k) between.0 b between.1 (ap (slice_get s.segments) next ∙ b_there) in
-    record {
-      closed = first.closed;
-      rises = (let low : a.last_vsn ≤ between.0.last_vsn = first.rises in let high : between.0.last_vsn ≤ b.last_vsn = t.rises in omega arith);
-      order = λ target. t.order (first.order target);
-      end = λ ended. ((first.end ended).0, t.order (first.end ended).1);
-    }
-
-pub segments_in_order : SegmentsInOrder
-segments_in_order s m n a b c before a_there b_there = apart s (n - suc m) m n a b c (omega arith) a_there b_there

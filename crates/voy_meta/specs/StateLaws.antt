@@ -1,9 +1,9 @@
 -- What holds of records and of what they come to.
-use Rattle.std.specs.Prelude.{◌≡◌, ◌≤◌, ◌<◌, ◌↔◌, ◌++◌, ◌&&◌, ℕ, Bool, true, false, List, [], ◌∷◌, Some, is_none}
+use Rattle.std.specs.Prelude.{◌≡◌, ◌≢◌, ◌≤◌, ◌<◌, ◌↔◌, ◌++◌, ◌&&◌, ℕ, Bool, true, false, List, [], ◌∷◌, Some, is_none}
 use Rattle.voy_tables.specs.declared.change.Role.{Role}
 use Rattle.voy_tables.specs.declared.change.Side.{Side}
 use Rattle.voy_tables.specs.declared.change.Side.TheVariants as side
-use Rattle.voy_meta.specs.Allowed.{allowed_after, are_allowed, is_allowed, writes}
+use Rattle.voy_meta.specs.Allowed.{allowed_after, are_allowed, is_allowed, is_first_of, writes}
 use Rattle.voy_meta.specs.Sides.{last_segment}
 use Rattle.voy_meta.specs.Stages.{is_reached, place_of, request_refusal, stage_of}
 use Rattle.voy_meta.specs.Stands.{IsBefore, IsConsistent, IsSegment}
@@ -52,6 +52,11 @@ SegmentsInOrder = (state : MetaState) (m n : ℕ) (a b : SegmentState) → IsCon
 abbrev pub OpenIsTheWriters : Type 0
 OpenIsTheWriters = (state : MetaState) (last : SegmentState) (r : Role) → IsConsistent state → last_segment state ≡ Some last → last.closed ≡ false
     → writes state r ≡ true → last.role ≡ r
+
+-- the test for the first segment of an exporter's part says that no segment in front of it is of that exporter
+abbrev pub FirstOfItsPart : Type 0
+FirstOfItsPart = (state : MetaState) (r : Role) (n : ℕ) (s : SegmentState) → IsConsistent state → IsSegment state n s → s.role ≡ r
+    → (is_first_of r state.segments n ≡ true) ↔ ((m : ℕ) (t : SegmentState) → m < n → IsSegment state m t → t.role ≢ r)
 
 -- behind a version, a request as it may be made is allowed exactly where it is not refused
 abbrev pub NotRefusedIsAllowed : Type 0
