@@ -5,6 +5,7 @@ pub mod GrowLemmas
 pub mod JoinLemmas
 pub mod KeepsLemmas
 pub mod OpeningLemmas
+pub mod OrderLemmas
 pub mod PayloadLemmas
 pub mod PutLemmas
 pub mod QueueLemmas

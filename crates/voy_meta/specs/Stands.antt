@@ -38,6 +38,13 @@ pub record IsInTurn (a b : SegmentState) : Type 0 where
   pub end : a.ended ≡ true → (a.role ≡ role.Source) × (b.role ≡ role.Target)
   pub begin : b.role ≡ role.Target → a.role ≡ role.Source → a.ended ≡ true
 
+-- of a segment and any one behind it
+pub record IsBefore (a b : SegmentState) : Type 0 where
+  pub closed : a.closed ≡ true
+  pub rises : a.last_vsn ≤ b.last_vsn
+  pub order : a.role ≡ role.Target → b.role ≡ role.Target
+  pub end : a.ended ≡ true → (a.role ≡ role.Source) × (b.role ≡ role.Target)
+
 -- the segment has the cutover event of this exporter
 abbrev pub ends_part : Role → SegmentState → Bool
 ends_part r s = s.ended && is_role s.role r

@@ -1,10 +1,12 @@
 -- What holds of records and of what they come to.
-use Rattle.std.specs.Prelude.{◌≡◌, ◌≤◌, ◌<◌, ◌↔◌, ◌++◌, ◌&&◌, ℕ, Bool, true, false, List, [], ◌∷◌, Some, is_none}
+use Rattle.std.specs.Prelude.{◌≡◌, ◌≢◌, ◌≤◌, ◌<◌, ◌↔◌, ◌++◌, ◌&&◌, ℕ, Bool, true, false, List, [], ◌∷◌, Some, is_none}
+use Rattle.voy_tables.specs.declared.change.Role.{Role}
 use Rattle.voy_tables.specs.declared.change.Side.{Side}
 use Rattle.voy_tables.specs.declared.change.Side.TheVariants as side
-use Rattle.voy_meta.specs.Allowed.{allowed_after, are_allowed, is_allowed}
+use Rattle.voy_meta.specs.Allowed.{allowed_after, are_allowed, is_allowed, is_first_of, writes}
+use Rattle.voy_meta.specs.Sides.{last_segment}
 use Rattle.voy_meta.specs.Stages.{is_reached, place_of, request_refusal, stage_of}
-use Rattle.voy_meta.specs.Stands.{IsConsistent, IsSegment}
+use Rattle.voy_meta.specs.Stands.{IsBefore, IsConsistent, IsSegment}
 use Rattle.voy_meta.specs.State.{after_record, state_after, state_of}
 use Rattle.voy_meta.specs.declared.record.MetaRecord.{MetaRecord}
 use Rattle.voy_meta.specs.declared.record.MetaRecord.TheVariants.{Request}
@@ -41,6 +43,20 @@ OneMoreTest = (entries : List MetaRecord) (entry : MetaRecord)
 abbrev pub ClosedStays : Type 0
 ClosedStays = (state : MetaState) (entry : MetaRecord) (n : ℕ) (s : SegmentState)
     → is_allowed state entry ≡ true → IsSegment state n s → s.closed ≡ true → IsSegment (after_record state entry) n s
+
+-- the segments stand in order, the source's in front of the target's
+abbrev pub SegmentsInOrder : Type 0
+SegmentsInOrder = (state : MetaState) (m n : ℕ) (a b : SegmentState) → IsConsistent state → m < n → IsSegment state m a → IsSegment state n b → IsBefore a b
+
+-- an open segment is of the exporter that may write
+abbrev pub OpenIsTheWriters : Type 0
+OpenIsTheWriters = (state : MetaState) (last : SegmentState) (r : Role) → IsConsistent state → last_segment state ≡ Some last → last.closed ≡ false
+    → writes state r ≡ true → last.role ≡ r
+
+-- the test for the first segment of an exporter's part says that no segment in front of it is of that exporter
+abbrev pub FirstOfItsPart : Type 0
+FirstOfItsPart = (state : MetaState) (r : Role) (n : ℕ) (s : SegmentState) → IsConsistent state → IsSegment state n s → s.role ≡ r
+    → (is_first_of r state.segments n ≡ true) ↔ ((m : ℕ) (t : SegmentState) → m < n → IsSegment state m t → t.role ≢ r)
 
 -- behind a version, a request as it may be made is allowed exactly where it is not refused
 abbrev pub NotRefusedIsAllowed : Type 0

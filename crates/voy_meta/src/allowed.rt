@@ -1,5 +1,5 @@
 ghost use Rattle.std.specs.Prelude.{◌≡◌, slice_get};
-ghost use Rattle.voy_meta.specs.Allowed.{channels_follow, finished_follows, follows_version, goes_on, is_allowed, is_closed_of, is_first_of, is_next_finished, is_other, is_up_to, is_within, may_be_filled, may_end, queue_follows, request_follows, segment_follows, snapshot_follows, spot_follows, version_follows, vsn_before, vsn_follows, writes};
+ghost use Rattle.voy_meta.specs.Allowed.{channels_follow, finished_follows, follows_version, goes_on, is_allowed, is_closed_of, is_first_of, is_next_finished, is_other, is_up_to, is_within, may_be_filled, may_end, queue_follows, request_follows, segment_follows, snapshot_follows, spot_follows, version_follows, vsn_follows, writes};
 ghost use Rattle.voy_meta.specs.Sides.{feeds, finished_of, is_role};
 
 use crate::limits::{
@@ -79,7 +79,9 @@ impl MetaState {
             && self.may_end(recorded)
     }
 
-    fn writes(&self, role: Role) -> bool
+    /// Whether this exporter may write: the source's until its part is ended, and then the target's, where the cutover to
+    /// the target is done with a fall-back, until its part is.
+    pub fn writes(&self, role: Role) -> bool
         ensures { result ≡ writes self.now role }
     {
         match role {
@@ -100,13 +102,13 @@ impl MetaState {
     fn vsn_follows(&self, last_vsn: u64) -> bool
         ensures { result ≡ vsn_follows self.now last_vsn }
     {
-        vsn_before(self.last_segment()) <= last_vsn && 1 <= last_vsn && last_vsn <= MAX_VSN
+        self.last_vsn() <= last_vsn && 1 <= last_vsn && last_vsn <= MAX_VSN
     }
 
     fn may_end(&self, recorded: &SegmentState) -> bool
         ensures { result ≡ may_end self.now recorded.now.last_vsn recorded.now.role recorded.now.closed recorded.now.ended }
     {
-        let is_more = vsn_before(self.last_segment()) < recorded.last_vsn;
+        let is_more = self.last_vsn() < recorded.last_vsn;
         let is_asked = self.request(led_to(recorded.role)).is_some();
         !recorded.ended || (recorded.closed && is_more && is_asked)
     }
@@ -190,15 +192,6 @@ fn goes_on(last: Option<SegmentState>, count: usize, segment: u32, bytes: u64) -
         None => segment == 0,
         Some(last) if last.closed => at == count,
         Some(last) => at < count && count - at == 1 && last.bytes <= bytes,
-    }
-}
-
-fn vsn_before(last: Option<SegmentState>) -> u64
-    ensures { result ≡ vsn_before last }
-{
-    match last {
-        None => 0,
-        Some(last) => last.last_vsn,
     }
 }
 

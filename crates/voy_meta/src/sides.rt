@@ -1,6 +1,6 @@
 ghost use Rattle.std.specs.Prelude.{◌≡◌};
-ghost use Rattle.voy_meta.specs.Allowed.{has_fall_back, has_snapshot, says_fall_back};
-ghost use Rattle.voy_meta.specs.Sides.{channels_of, feeds, finished_of, is_done, is_ended, is_role, last_of, last_segment, leads_to, request_of};
+ghost use Rattle.voy_meta.specs.Allowed.{has_fall_back, has_snapshot, says_fall_back, vsn_before};
+ghost use Rattle.voy_meta.specs.Sides.{channels_of, feeds, finished_of, is_done, is_ended, last_of, last_segment, leads_to, request_of};
 
 use crate::state::{MetaState, SegmentState};
 use voy_tables::{Role, Side, Spot};
@@ -85,6 +85,16 @@ impl MetaState {
         ensures { result ≡ last_segment self.now }
     {
         self.segments.as_slice().last().copied()
+    }
+
+    /// The vsn of the last committed event, from whatever exporter; 0 where there is none.
+    pub fn last_vsn(&self) -> u64
+        ensures { result ≡ vsn_before (last_segment self.now) }
+    {
+        match self.last_segment() {
+            None => 0,
+            Some(last) => last.last_vsn,
+        }
     }
 }
 

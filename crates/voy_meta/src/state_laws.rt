@@ -1,5 +1,5 @@
 ghost use Rattle.voy_meta.specs.Growing.{GrowsByAll, GrowsByOne};
-ghost use Rattle.voy_meta.specs.StateLaws.{ClosedStays, ConsistencyIsKept, NoFallBackIsSaid, NotRefusedIsAllowed, OneMoreState, OneMoreTest, RecordsAreConsistent, StageIsTheLast, StageNeverFalls, StagesNeverFall, StatesJoin, TestsJoin};
+ghost use Rattle.voy_meta.specs.StateLaws.{ClosedStays, ConsistencyIsKept, FirstOfItsPart, NoFallBackIsSaid, NotRefusedIsAllowed, OneMoreState, OneMoreTest, OpenIsTheWriters, RecordsAreConsistent, SegmentsInOrder, StageIsTheLast, StageNeverFalls, StagesNeverFall, StatesJoin, TestsJoin};
 
 /// Law: what allowed records come to is consistent, and each allowed record keeps it so.
 pub fn consistent()
@@ -18,6 +18,14 @@ pub fn records_join()
 /// Law: an allowed record changes no closed segment.
 pub fn closed_stays()
     ensures { ClosedStays }
+{}
+
+/// Law: in a consistent state the segments stand in order, all but the last are closed, an open one is of the exporter that
+/// may write, and the first of a part is told by the one in front of it.
+pub fn segments_stand()
+    ensures order { SegmentsInOrder }
+    ensures writer { OpenIsTheWriters }
+    ensures first { FirstOfItsPart }
 {}
 
 /// Law: a request is allowed exactly where the stage does not refuse it, and a refusal for want of a fall-back says that
