@@ -64,18 +64,19 @@ opens_from schema (payload ∷ payloads) contents history is taken =
 taken_from : (schema : List Table) (payloads : List (List ℕ)) (contents known : Contents) (history : History) → history_in schema payloads ≡ Some history
     → knows_after (contents_with schema) contents payloads ≡ Some known → taken_after schema contents history ≡ true
 taken_from schema [] contents known history is knows = subst (λ h. taken_after schema contents h ≡ true) (some_history is) refl
-taken_from schema (payload ∷ payloads) contents known history is knows = by (takes schema contents first.txn) refl where
+taken_from schema (payload ∷ payloads) contents known history is knows = by (taken_from schema payloads) (takes schema contents first.txn) refl where
   first : Splits schema payload payloads history
   first = split schema payload payloads history is
 
   next : {x y : Option Contents} → x ≡ y → option_and_then (λ c. knows_after (contents_with schema) c payloads) x ≡ option_and_then (λ c. knows_after (contents_with schema) c payloads) y
   next same = ap (option_and_then (λ c. knows_after (contents_with schema) c payloads)) same
 
-  by : (taken : Bool) → takes schema contents first.txn ≡ taken → taken_after schema contents history ≡ true
-  by false refused = absurd (none-some known (sym (next (step_refused schema contents payload first.txn first.reads refused)) ∙ knows))
-  by true taken =
+  by : ((c k : Contents) (h : History) → history_in schema payloads ≡ Some h → knows_after (contents_with schema) c payloads ≡ Some k → taken_after schema c h ≡ true)
+      → (taken : Bool) → takes schema contents first.txn ≡ taken → taken_after schema contents history ≡ true
+  by behind false refused = absurd (none-some known (sym (next (step_refused schema contents payload first.txn first.reads refused)) ∙ knows))
+  by behind true taken =
       subst (λ h. taken_after schema contents h ≡ true) (sym first.is)
-      (rw taken (taken_from schema payloads (contents_after schema contents first.txn) known first.rest first.behind
+      (rw taken (behind (contents_after schema contents first.txn) known first.rest first.behind
       (sym (next (step_taken schema contents payload first.txn first.reads taken)) ∙ knows)))
 
 and_true : (a : Bool) → (a && true) ≡ a
