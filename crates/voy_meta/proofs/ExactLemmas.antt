@@ -11,7 +11,8 @@ use Rattle.voy_journal.specs.Grammar.{HasPayloads, entries, payloads_of}
 use Rattle.voy_journal.specs.GrammarLaws.{payloads_read}
 use Rattle.voy_journal.specs.Journal.{Stands, StandsOn, journal_gate, journal_name}
 use Rattle.voy_meta.specs.Exact.{OpensMeta, with_version}
-use Rattle.voy_meta.specs.Meta.{ReadsRecords, meta_name, records_of}
+use Rattle.voy_meta.specs.Meta.{meta_name, records_of}
+use Rattle.voy_meta.specs.Opening.{ReadsRecords}
 use Rattle.voy_meta.specs.Records.{payload_of}
 use Rattle.voy_meta.specs.State.{state_of}
 use Rattle.voy_meta.specs.declared.limits.TheConstants.{VERSION}

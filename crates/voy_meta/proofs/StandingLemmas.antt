@@ -13,9 +13,9 @@ use Rattle.voy_journal.specs.Journal.{KeepsPayloads, StandsOn, journal_name, kno
 use Rattle.voy_journal.specs.declared.state.Journal.{Journal}
 use Rattle.voy_meta.specs.Allowed.{allowed_after, is_allowed, version_follows}
 use Rattle.voy_meta.specs.FoldLaws.{more, state_on}
-use Rattle.voy_meta.specs.Meta.{AddsRecords, OpensRecords, OpensTo, OpensWith, ReadsRecords, RecordsStand, meta_name, opened, records_in, records_told}
+use Rattle.voy_meta.specs.Meta.{AddsRecords, OpensRecords, OpensTo, OpensWith, RecordsStand, meta_name, opened, records_in, records_told}
 use Rattle.voy_meta.specs.MetaLaws.{no_more, records_in_each}
-use Rattle.voy_meta.specs.Opening.{AreTaken}
+use Rattle.voy_meta.specs.Opening.{AreTaken, ReadsRecords}
 use Rattle.voy_meta.specs.State.{after_record, empty_state, state_after, state_of}
 use Rattle.voy_meta.specs.declared.limits.TheConstants.{VERSION}
 use Rattle.voy_meta.specs.declared.meta.Meta.{Meta}

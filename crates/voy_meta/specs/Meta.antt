@@ -49,7 +49,7 @@ records_in image = records_told (payloads_in meta_name image)
 abbrev pub known_records : Meta → Option Files → Option (List MetaRecord)
 known_records meta files = records_told (known_payloads meta.journal files)
 
--- records are kept by the rules of today
+-- what an opening makes of records: where their version is not that of today, that one stands behind them
 abbrev pub opened : List MetaRecord → List MetaRecord
 opened entries = if (state_of entries).version == VERSION then entries else entries ++ Version VERSION ∷ []
 
@@ -123,10 +123,3 @@ pub record OpensWith (bytes : List ℕ) (known : Option (List MetaRecord)) : Typ
   pub entries : List MetaRecord
   pub has : HasRecords entries bytes
   pub known_is : known ≡ Some (opened entries)
-
--- the bytes are a journal of the records that are known, and that come to this state
-pub record ReadsRecords (bytes : List ℕ) (state : MetaState) (known : Option (List MetaRecord)) : Type 0 where
-  pub entries : List MetaRecord
-  pub has : HasRecords entries bytes
-  pub state_is : state ≡ state_of entries
-  pub known_is : known ≡ Some entries

@@ -1,10 +1,11 @@
 -- What the reader of payloads says on its way.
 use Rattle.std.specs.Prelude.{◌≡◌, ℕ, List, Bool, Option, Some, None, Result, Ok, Err, if◌then◌else◌}
 use Rattle.voy_journal.specs.Refusals.{knows_after}
-use Rattle.voy_meta.specs.Meta.{state_with}
-use Rattle.voy_meta.specs.State.{empty_state}
+use Rattle.voy_meta.specs.Meta.{HasRecords, state_with}
+use Rattle.voy_meta.specs.State.{empty_state, state_of}
 use Rattle.voy_meta.specs.declared.error.MetaError.{MetaError}
 use Rattle.voy_meta.specs.declared.error.MetaError.TheVariants.{Fault, Damaged, NoMemory}
+use Rattle.voy_meta.specs.declared.record.MetaRecord.{MetaRecord}
 use Rattle.voy_meta.specs.declared.state.MetaState.{MetaState}
 
 -- what a payload made of a state, where it was taken
@@ -21,3 +22,10 @@ Finds (Ok value) bad = bad ≡ None
 Finds (Err Fault) bad = Unit {0}
 Finds (Err (Damaged offset)) bad = bad ≡ Some offset
 Finds (Err NoMemory) bad = Unit {0}
+
+-- the bytes are a journal of the records that are known, and that come to this state
+pub record ReadsRecords (bytes : List ℕ) (state : MetaState) (known : Option (List MetaRecord)) : Type 0 where
+  pub entries : List MetaRecord
+  pub has : HasRecords entries bytes
+  pub state_is : state ≡ state_of entries
+  pub known_is : known ≡ Some entries

@@ -24,3 +24,27 @@ pub(crate) const NUMBER_BYTES: usize = 4;
 
 /// The bytes in a payload of any other number.
 pub(crate) const LONG_BYTES: usize = 8;
+
+/// The first byte of the payload of a version.
+pub(crate) const VERSION_KIND: u8 = 1;
+
+/// The first byte of the payload of a snapshot.
+pub(crate) const SNAPSHOT_KIND: u8 = 2;
+
+/// The first byte of the payload of a segment of the queue.
+pub(crate) const QUEUE_KIND: u8 = 3;
+
+/// The first byte of the payload of a request.
+pub(crate) const REQUEST_KIND: u8 = 4;
+
+/// The first byte of the payload of a count of channels.
+pub(crate) const CHANNELS_KIND: u8 = 5;
+
+/// The first byte of the payload of a finished segment.
+pub(crate) const FINISHED_KIND: u8 = 6;
+
+/// The first byte of the payload of a cutover that is done.
+pub(crate) const DONE_KIND: u8 = 7;
+
+/// The first byte of the payload of the load of the source's store.
+pub(crate) const LOADED_KIND: u8 = 8;

@@ -2,6 +2,10 @@ ghost use Rattle.std.specs.Prelude.{◌≡◌};
 ghost use Rattle.voy_meta.specs.Reading.{channels_of, done_of, finished_of, queue_of, record_reading, request_of, snapshot_of, version_of, whole};
 
 use crate::fields::{byte_of, long_of, number_of, place_of, role_of, side_of, truth_of};
+use crate::limits::{
+    CHANNELS_KIND, DONE_KIND, FINISHED_KIND, LOADED_KIND, QUEUE_KIND, REQUEST_KIND, SNAPSHOT_KIND,
+    VERSION_KIND,
+};
 use crate::record::MetaRecord;
 
 /// The record whose payload `bytes` are, all of them. `None` where they are no payload.
@@ -16,14 +20,14 @@ pub fn read_record(bytes: &[u8]) -> Option<MetaRecord>
         return None;
     };
     match *kind {
-        1 => version_of(fields),
-        2 => snapshot_of(fields),
-        3 => queue_of(fields),
-        4 => request_of(fields),
-        5 => channels_of(fields),
-        6 => finished_of(fields),
-        7 => done_of(fields),
-        8 => whole(MetaRecord::Loaded, fields),
+        VERSION_KIND => version_of(fields),
+        SNAPSHOT_KIND => snapshot_of(fields),
+        QUEUE_KIND => queue_of(fields),
+        REQUEST_KIND => request_of(fields),
+        CHANNELS_KIND => channels_of(fields),
+        FINISHED_KIND => finished_of(fields),
+        DONE_KIND => done_of(fields),
+        LOADED_KIND => whole(MetaRecord::Loaded, fields),
         _ => None,
     }
 }

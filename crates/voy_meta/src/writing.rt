@@ -2,6 +2,10 @@ ghost use Rattle.std.specs.Prelude.{◌≡◌, IfOk};
 ghost use Rattle.voy_meta.specs.Records.{payload_of};
 
 use crate::fields::{push_long, push_number, push_place, push_role, push_side, push_truth};
+use crate::limits::{
+    CHANNELS_KIND, DONE_KIND, FINISHED_KIND, LOADED_KIND, QUEUE_KIND, REQUEST_KIND, SNAPSHOT_KIND,
+    VERSION_KIND,
+};
 use crate::record::MetaRecord;
 use std::alloc::{AllocError, Global};
 use voy_schema::Bytes;
@@ -14,7 +18,7 @@ pub fn payload_of(alloc: Global, entry: &MetaRecord) -> Result<Bytes, AllocError
     let mut payload = Bytes::new(alloc);
     match entry {
         MetaRecord::Version { version } => {
-            payload.append_slice(&[1, *version])?;
+            payload.append_slice(&[VERSION_KIND, *version])?;
         }
         MetaRecord::Snapshot {
             table,
@@ -22,7 +26,7 @@ pub fn payload_of(alloc: Global, entry: &MetaRecord) -> Result<Bytes, AllocError
             bytes,
             rows,
         } => {
-            payload.push(2)?;
+            payload.push(SNAPSHOT_KIND)?;
             push_number(&mut payload, *table)?;
             push_number(&mut payload, *of)?;
             push_long(&mut payload, *bytes)?;
@@ -37,7 +41,7 @@ pub fn payload_of(alloc: Global, entry: &MetaRecord) -> Result<Bytes, AllocError
             closed,
             ended,
         } => {
-            payload.push(3)?;
+            payload.push(QUEUE_KIND)?;
             push_number(&mut payload, *segment)?;
             push_long(&mut payload, *bytes)?;
             push_long(&mut payload, *last_vsn)?;
@@ -47,26 +51,26 @@ pub fn payload_of(alloc: Global, entry: &MetaRecord) -> Result<Bytes, AllocError
             push_truth(&mut payload, *ended)?;
         }
         MetaRecord::Request { side, fall_back } => {
-            payload.push(4)?;
+            payload.push(REQUEST_KIND)?;
             push_side(&mut payload, *side)?;
             push_truth(&mut payload, *fall_back)?;
         }
         MetaRecord::Channels { side, count } => {
-            payload.push(5)?;
+            payload.push(CHANNELS_KIND)?;
             push_side(&mut payload, *side)?;
             push_number(&mut payload, *count)?;
         }
         MetaRecord::Finished { side, segment } => {
-            payload.push(6)?;
+            payload.push(FINISHED_KIND)?;
             push_side(&mut payload, *side)?;
             push_number(&mut payload, *segment)?;
         }
         MetaRecord::Done { side } => {
-            payload.push(7)?;
+            payload.push(DONE_KIND)?;
             push_side(&mut payload, *side)?;
         }
         MetaRecord::Loaded => {
-            payload.push(8)?;
+            payload.push(LOADED_KIND)?;
         }
     }
     Ok(payload)

@@ -1,7 +1,7 @@
 use std::test::Fail;
 use voy_meta::{
     closed_stays, consistent, metadata_stand, records_join, records_read_back, refusals_tell,
-    stages_go_on, states_grow,
+    segments_stand, stages_go_on, states_grow,
 };
 
 #[test]
@@ -12,6 +12,7 @@ fn laws_may_be_called(_rt: HostRuntime) -> Result<(), Fail> {
     records_join();
     closed_stays();
     refusals_tell();
+    segments_stand();
     stages_go_on();
     states_grow();
     Ok(())
