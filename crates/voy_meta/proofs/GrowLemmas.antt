@@ -10,6 +10,7 @@ use Rattle.voy_tables.specs.declared.change.Side.TheVariants as side
 use Rattle.voy_tables.specs.declared.change.Spot.{Spot}
 use Rattle.voy_meta.specs.Allowed.{allowed_after, channels_follow, finished_follows, has_fall_back, has_snapshot, is_allowed, is_closed_of, is_next_finished, is_up_to, may_be_filled, request_follows, snapshot_follows, spot_follows, vsn_before}
 use Rattle.voy_meta.specs.Growing.{Grows, GrowsByAll, GrowsByOne, IsLonger}
+use Rattle.voy_meta.specs.Putting.{GoesOn, IsNext, MayBePut}
 use Rattle.voy_meta.specs.Sides.{channels_of, feeds, finished_of, is_done, is_ended, last_of, last_segment, request_of}
 use Rattle.voy_meta.specs.Stands.{IsConsistent, IsSegment}
 use Rattle.voy_meta.specs.State.{after_record, state_after}
@@ -21,7 +22,7 @@ use Rattle.voy_meta.specs.declared.state.SegmentState.{SegmentState}
 use Rattle.voy_meta.specs.declared.state.SnapshotState.{SnapshotState}
 use Rattle.voy_meta.proofs.KeepsLemmas.{closed_stays, consistency_is_kept, put_by, none_is, not_all, not_true, next_snapshot}
 use Rattle.voy_meta.proofs.PutLemmas.{length_put, put_front, put_there, within_from}
-use Rattle.voy_meta.proofs.QueueLemmas.{GoesOn, IsNext, IsPut, put, put_within, same_role, writes_back}
+use Rattle.voy_meta.proofs.QueueLemmas.{goes_there, put, put_within, same_role, writes_back}
 
 -- the record that an allowed one follows the version by
 behind : (s : MetaState) (test : Bool) → (nat_lt 0 s.version && test) ≡ true → test ≡ true
@@ -56,7 +57,7 @@ as_long : (x : SegmentState) → IsLonger x x
 as_long x = record { bytes = omega arith; last_vsn = omega arith; role = refl }
 
 -- the segments, where one was put
-put_grows : (s : MetaState) (segment : ℕ) (new : SegmentState) (spot : Option Spot) → IsConsistent s → IsPut s segment new spot
+put_grows : (s : MetaState) (segment : ℕ) (new : SegmentState) (spot : Option Spot) → IsConsistent s → MayBePut s segment new spot
     → (n : ℕ) (x : SegmentState) → IsSegment s n x → (t : SegmentState) × (slice_get (put s segment new) n ≡ Some t) × IsLonger x t
 put_grows s segment new spot c q n x there = elim (cases_lt n segment) [ inl before ↦ (x, put_front s.segments segment new n x before there, as_long x) | inr from ↦ (new, at from q.place, longer from q.place) ] where
   inside : n < length s.segments
@@ -66,21 +67,21 @@ put_grows s segment new spot c q n x there = elim (cases_lt n segment) [ inl bef
   here from last = omega (arith, inside)
 
   at : segment ≤ n → IsNext s segment ⊎ GoesOn s segment new.bytes → slice_get (put s segment new) n ≡ Some new
-  at from (inl next) = absurd (let end : segment ≡ length s.segments = next.0 in omega (arith, inside))
-  at from (inr on) = ap (slice_get (put s segment new)) (sym (here from on.1)) ∙ put_there s.segments segment new (put_within s segment new spot q)
+  at from (inl next) = absurd (let end : segment ≡ length s.segments = next.here in omega (arith, inside))
+  at from (inr on) = ap (slice_get (put s segment new)) (sym (here from on.here)) ∙ put_there s.segments segment new (put_within s segment new spot q)
 
-  same : segment ≤ n → (on : GoesOn s segment new.bytes) → on.0 ≡ x
-  same from on = same_Some on.0 x (sym on.2 ∙ ap (slice_get s.segments) (here from on.1) ∙ there)
+  same : segment ≤ n → (on : GoesOn s segment new.bytes) → on.last ≡ x
+  same from on = same_Some on.last x (sym (goes_there s segment new.bytes on) ∙ ap (slice_get s.segments) (here from on.here) ∙ there)
 
   longer : segment ≤ n → IsNext s segment ⊎ GoesOn s segment new.bytes → IsLonger x new
-  longer from (inl next) = absurd (let end : segment ≡ length s.segments = next.0 in omega (arith, inside))
+  longer from (inl next) = absurd (let end : segment ≡ length s.segments = next.here in omega (arith, inside))
   longer from (inr on) = subst (λ (y : SegmentState). IsLonger y new) (same from on) (record {
-    bytes = on.5;
-    last_vsn = subst (λ (y : Option SegmentState). vsn_before y ≤ new.last_vsn) on.3 q.rises;
-    role = same_role s segment on.0 new.role c on.2 on.3 on.4 q.may_write;
+    bytes = on.bytes_rise;
+    last_vsn = subst (λ (y : Option SegmentState). vsn_before y ≤ new.last_vsn) on.is_last q.rises;
+    role = same_role s segment on.last new.role c (goes_there s segment new.bytes on) on.is_last on.unshut q.may_write;
   })
 
-put_rises : (s : MetaState) (segment : ℕ) (new : SegmentState) (spot : Option Spot) → IsPut s segment new spot
+put_rises : (s : MetaState) (segment : ℕ) (new : SegmentState) (spot : Option Spot) → MayBePut s segment new spot
     → vsn_before (last_segment s) ≤ vsn_before (slice_get (put s segment new) (length (put s segment new) - 1))
 put_rises s segment new spot q =
     let within : segment ≤ length s.segments = put_within s segment new spot q in
@@ -140,13 +141,13 @@ stays last x is = (x, is, up_to_itself x)
 source_spot_grows : (s : MetaState) (e : MetaRecord) → is_allowed s e ≡ true → GoesUp s.last_source (after_record s e).last_source
 unfolding is_allowed after_record
 source_spot_grows s (Queue segment bytes last_vsn role.Source spot closed ended) passes =
-    goes_up s.last_source spot (put_by s segment bytes last_vsn role.Source spot closed ended passes).place_follows
+    goes_up s.last_source spot (put_by s segment bytes last_vsn role.Source spot closed ended passes).spot_rises
 source_spot_grows s e passes = stays s.last_source
 
 target_spot_grows : (s : MetaState) (e : MetaRecord) → is_allowed s e ≡ true → GoesUp s.last_target (after_record s e).last_target
 unfolding is_allowed after_record
 target_spot_grows s (Queue segment bytes last_vsn role.Target spot closed ended) passes =
-    goes_up s.last_target spot (put_by s segment bytes last_vsn role.Target spot closed ended passes).place_follows
+    goes_up s.last_target spot (put_by s segment bytes last_vsn role.Target spot closed ended passes).spot_rises
 target_spot_grows s e passes = stays s.last_target
 
 source_ended_stays : (s : MetaState) (e : MetaRecord) → is_allowed s e ≡ true → s.ended_source ≡ true → ((after_record s e).ended_source ≡ true) × ((after_record s e).last_source ≡ s.last_source)

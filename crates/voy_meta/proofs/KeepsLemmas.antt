@@ -11,6 +11,7 @@ use Rattle.voy_tables.specs.declared.change.Side.{Side}
 use Rattle.voy_tables.specs.declared.change.Side.TheVariants as side
 use Rattle.voy_tables.specs.declared.change.Spot.{Spot}
 use Rattle.voy_meta.specs.Allowed.{allowed_after, channels_follow, finished_follows, follows_version, has_fall_back, has_snapshot, is_allowed, is_closed_of, is_next_finished, may_be_filled, queue_follows, request_follows, says_fall_back, snapshot_follows, version_follows, writes}
+use Rattle.voy_meta.specs.Putting.{MayBePut}
 use Rattle.voy_meta.specs.Sides.{channels_of, feeds, finished_of, is_done, is_ended, is_role, last_segment, leads_to, request_of}
 use Rattle.voy_meta.specs.Stands.{IsConsistent, IsInTurn, IsLawful, IsSegment, IsSized, ends_part}
 use Rattle.voy_meta.specs.State.{after_record, empty_state, state_after}
@@ -22,7 +23,7 @@ use Rattle.voy_meta.specs.declared.state.MetaState.{MetaState}
 use Rattle.voy_meta.specs.declared.state.SegmentState.{SegmentState}
 use Rattle.voy_meta.specs.declared.state.SnapshotState.{SnapshotState}
 use Rattle.voy_meta.proofs.PutLemmas.{get_more, length_more, length_put}
-use Rattle.voy_meta.proofs.QueueLemmas.{IsPut, put, put_closed, put_each, put_ends, put_first, put_in_turn, put_is, put_last, put_lawful, put_within, writes_back}
+use Rattle.voy_meta.proofs.QueueLemmas.{put, put_closed, put_each, put_ends, put_first, put_in_turn, put_is, put_last, put_lawful, put_within, writes_back}
 
 versioned : (v : ℕ) → nat_lt 0 v ≡ true → v ≡ 0 → ⊥
 versioned v passes none = let above : 0 < v = ltb-true 0 v passes in omega arith
@@ -114,7 +115,7 @@ not_all s table of bytes rows n all =
 more_snapshots : (s : MetaState) (table of bytes rows : ℕ) → (nat_lt 0 s.version && snapshot_follows s table of bytes rows) ≡ true → IsNextSnapshot s table of bytes rows
 more_snapshots s table of bytes rows passes = next_snapshot s table of bytes rows (behind s (snapshot_follows s table of bytes rows) passes)
 
-missing : (s : MetaState) (table of bytes rows : ℕ) → (nat_lt 0 s.version && snapshot_follows s table of bytes rows) ≡ true → has_snapshot s ≡ true → ⊥
+pub missing : (s : MetaState) (table of bytes rows : ℕ) → (nat_lt 0 s.version && snapshot_follows s table of bytes rows) ≡ true → has_snapshot s ≡ true → ⊥
 missing s table of bytes rows passes = not_all s table of bytes rows (more_snapshots s table of bytes rows passes)
 
 -- what an allowed Channels record says
@@ -191,7 +192,7 @@ abbrev segment_of : (bytes last_vsn : ℕ) → Role → (closed ended : Bool) �
 segment_of bytes last_vsn r closed ended = record { bytes = bytes; last_vsn = last_vsn; role = r; closed = closed; ended = ended }
 
 pub put_by : (s : MetaState) (segment bytes last_vsn : ℕ) (r : Role) (spot : Option Spot) (closed ended : Bool) → (nat_lt 0 s.version && queue_follows s segment bytes last_vsn r spot closed ended) ≡ true
-    → IsPut s segment (record { bytes = bytes; last_vsn = last_vsn; role = r; closed = closed; ended = ended }) spot
+    → MayBePut s segment (record { bytes = bytes; last_vsn = last_vsn; role = r; closed = closed; ended = ended }) spot
 put_by s segment bytes last_vsn r spot closed ended passes =
     put_is s segment (segment_of bytes last_vsn r closed ended) spot (behind s (queue_follows s segment bytes last_vsn r spot closed ended) passes)
 
@@ -335,7 +336,7 @@ counts_kept s (Channels side.Source count) c passes side.Source = λ n is. count
 counts_kept s e c passes side.Target = c.counts side.Target
 counts_kept s e c passes side.Source = c.counts side.Source
 
-closed_there : (s : MetaState) (segment : ℕ) (new : SegmentState) (spot : Option Spot) (r : Role) (n : ℕ) → IsPut s segment new spot → IsClosedOf s r n
+closed_there : (s : MetaState) (segment : ℕ) (new : SegmentState) (spot : Option Spot) (r : Role) (n : ℕ) → MayBePut s segment new spot → IsClosedOf s r n
     → (x : SegmentState) × (slice_get (put s segment new) n ≡ Some x) × (x.closed ≡ true) × (x.role ≡ r)
 closed_there s segment new spot r n q old = (old.0, put_closed s segment new spot q n old.0 old.1 old.2, old.2, old.3)
 

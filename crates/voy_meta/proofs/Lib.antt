@@ -8,6 +8,7 @@ pub mod OpeningLemmas
 pub mod OrderLemmas
 pub mod PayloadLemmas
 pub mod PutLemmas
+pub mod PutRecords
 pub mod QueueLemmas
 pub mod StageLemmas
 pub mod StandingLemmas

@@ -9,6 +9,7 @@ use Rattle.voy_tables.specs.declared.change.Role.TheVariants as role
 use Rattle.voy_tables.specs.declared.change.Side.TheVariants as side
 use Rattle.voy_tables.specs.declared.change.Spot.{Spot}
 use Rattle.voy_meta.specs.Allowed.{goes_on, has_fall_back, has_snapshot, is_within, may_end, queue_follows, says_fall_back, segment_follows, spot_follows, vsn_before, vsn_follows, writes}
+use Rattle.voy_meta.specs.Putting.{GoesOn, IsEnd, IsNext, MayBePut}
 use Rattle.voy_meta.specs.Sides.{is_ended, is_role, last_of, last_segment, leads_to, request_of}
 use Rattle.voy_meta.specs.Stands.{IsConsistent, IsInTurn, IsLawful, IsSegment, ends_part}
 use Rattle.voy_meta.specs.declared.limits.TheConstants.{MAX_SEGMENT, MAX_VSN}
@@ -16,51 +17,28 @@ use Rattle.voy_meta.specs.declared.state.MetaState.{MetaState}
 use Rattle.voy_meta.specs.declared.state.SegmentState.{SegmentState}
 use Rattle.voy_meta.proofs.PutLemmas.{any_of_none, any_push, any_replace, get_put, length_put, none_without_last, put_front, put_there, within_from}
 
--- the number behind all segments, the last of which is closed, if there is one
-abbrev pub IsNext : MetaState → ℕ → Type 0
-IsNext s segment = (segment ≡ length s.segments) × ((last : SegmentState) → last_segment s ≡ Some last → last.closed ≡ true)
-
--- the number of the last segment, which is open and has no more bytes
-abbrev pub GoesOn : MetaState → ℕ → ℕ → Type 0
-GoesOn s segment bytes =
-    (last : SegmentState) × (suc segment ≡ length s.segments) × IsSegment s segment last × (last_segment s ≡ Some last) × (last.closed ≡ false) × (last.bytes ≤ bytes)
-
--- what an end has beside it
-pub record IsEnd (s : MetaState) (new : SegmentState) : Type 0 where
-  pub closed : new.closed ≡ true
-  pub more : vsn_before (last_segment s) < new.last_vsn
-  pub asked : is_some (request_of (leads_to new.role) s) ≡ true
-
--- a segment may be put at this number
-pub record IsPut (s : MetaState) (segment : ℕ) (new : SegmentState) (spot : Option Spot) : Type 0 where
-  pub snapshot : has_snapshot s ≡ true
-  pub may_write : writes s new.role ≡ true
-  pub place : IsNext s segment ⊎ GoesOn s segment new.bytes
-  pub numbered : segment ≤ MAX_SEGMENT
-  pub within : is_within new.bytes new.closed ≡ true
-  pub rises : vsn_before (last_segment s) ≤ new.last_vsn
-  pub positive : 1 ≤ new.last_vsn
-  pub greatest : new.last_vsn ≤ MAX_VSN
-  pub place_follows : spot_follows (last_of new.role s) spot ≡ true
-  pub end : new.ended ≡ true → IsEnd s new
-
 place_is : (s : MetaState) (segment bytes : ℕ) (found : Option SegmentState) → last_segment s ≡ found → goes_on found (length s.segments) segment bytes ≡ true
     → IsNext s segment ⊎ GoesOn s segment bytes
 place_is s segment bytes None none passes =
-    inl (eqb-true segment 0 passes ∙ sym (none_without_last s.segments none), λ last is. absurd (none-some last (sym none ∙ is)))
+    inl (record { here = eqb-true segment 0 passes ∙ sym (none_without_last s.segments none); shut = λ last is. absurd (none-some last (sym none ∙ is)) })
 place_is s segment bytes (Some last) is passes = by last.closed refl passes where
   by : (closed : Bool) → last.closed ≡ closed → (if closed then segment == length s.segments else (suc segment == length s.segments) && nat_le last.bytes bytes) ≡ true
       → IsNext s segment ⊎ GoesOn s segment bytes
-  by true shut passes = inl (eqb-true segment (length s.segments) passes, λ other other_is. sym (ap (λ (x : SegmentState). x.closed) (same_Some last other (sym is ∙ other_is))) ∙ shut)
+  by true shut passes = inl (record { here = eqb-true segment (length s.segments) passes; shut = λ other other_is. sym (ap (λ (x : SegmentState). x.closed) (same_Some last other (sym is ∙ other_is))) ∙ shut })
   by false unshut passes =
       let parts = and_parts (suc segment == length s.segments) (nat_le last.bytes bytes) passes in
-      let here : suc segment ≡ length s.segments = eqb-true (suc segment) (length s.segments) parts.0 in
-      let at : segment ≡ length s.segments - 1 = omega arith in
-      inr (last, here, ap (slice_get s.segments) at ∙ is, is, unshut, leb-true last.bytes bytes parts.1)
+      inr (record { last = last; is_last = is; here = eqb-true (suc segment) (length s.segments) parts.0; unshut = unshut; bytes_rise = leb-true last.bytes bytes parts.1 })
+
+-- the last segment is there
+pub goes_there : (s : MetaState) (segment bytes : ℕ) → (on : GoesOn s segment bytes) → IsSegment s segment on.last
+goes_there s segment bytes on =
+    let here : suc segment ≡ length s.segments = on.here in
+    let at : segment ≡ length s.segments - 1 = omega arith in
+    ap (slice_get s.segments) at ∙ on.is_last
 
 end_is : (s : MetaState) (new : SegmentState) → may_end s new.last_vsn new.role new.closed new.ended ≡ true → new.ended ≡ true → IsEnd s new
 end_is s new passes ended = record {
-  closed = parts.0;
+  shut = parts.0;
   more = ltb-true (vsn_before (last_segment s)) new.last_vsn rest.0;
   asked = rest.1;
 }
@@ -88,7 +66,7 @@ six true false c d e f passes = absurd (false≢true passes)
 six false b c d e f passes = absurd (false≢true passes)
 
 pub put_is : (s : MetaState) (segment : ℕ) (new : SegmentState) (spot : Option Spot)
-    → queue_follows s segment new.bytes new.last_vsn new.role spot new.closed new.ended ≡ true → IsPut s segment new spot
+    → queue_follows s segment new.bytes new.last_vsn new.role spot new.closed new.ended ≡ true → MayBePut s segment new spot
 put_is s segment new spot passes = record {
   snapshot = parts.0;
   may_write = parts.1;
@@ -98,7 +76,7 @@ put_is s segment new spot passes = record {
   rises = leb-true (vsn_before (last_segment s)) new.last_vsn vsn.0;
   positive = leb-true 1 new.last_vsn vsn.1;
   greatest = leb-true new.last_vsn MAX_VSN vsn.2;
-  place_follows = parts.4;
+  spot_rises = parts.4;
   end = end_is s new parts.5;
 }
   where
@@ -180,28 +158,28 @@ abbrev pub put : MetaState → ℕ → SegmentState → List SegmentState
 put s segment new = take segment s.segments ++ new ∷ []
 
 -- what is known where one is put
-pub put_within : (s : MetaState) (segment : ℕ) (new : SegmentState) (spot : Option Spot) → IsPut s segment new spot → segment ≤ length s.segments
-put_within s segment new spot q = elim q.place [ inl next ↦ (let here : segment ≡ length s.segments = next.0 in omega arith) | inr on ↦ (let here : suc segment ≡ length s.segments = on.1 in omega arith) ]
+pub put_within : (s : MetaState) (segment : ℕ) (new : SegmentState) (spot : Option Spot) → MayBePut s segment new spot → segment ≤ length s.segments
+put_within s segment new spot q = elim q.place [ inl next ↦ (let here : segment ≡ length s.segments = next.here in omega arith) | inr on ↦ (let here : suc segment ≡ length s.segments = on.here in omega arith) ]
 
 vsn_rises : (s : MetaState) (a new : SegmentState) → last_segment s ≡ Some a → vsn_before (last_segment s) ≤ new.last_vsn → a.last_vsn ≤ new.last_vsn
 vsn_rises s a new is rises = subst (λ (x : Option SegmentState). vsn_before x ≤ new.last_vsn) is rises
 
-boundary : (s : MetaState) (segment : ℕ) (new : SegmentState) (spot : Option Spot) (n : ℕ) (a : SegmentState) → IsConsistent s → IsPut s segment new spot
+boundary : (s : MetaState) (segment : ℕ) (new : SegmentState) (spot : Option Spot) (n : ℕ) (a : SegmentState) → IsConsistent s → MayBePut s segment new spot
     → suc n ≡ segment → IsSegment s n a → IsInTurn a new
 boundary s segment new spot n a c q here there = elim q.place [ inl next ↦ behind next | inr on ↦ replaced on ] where
   behind : IsNext s segment → IsInTurn a new
   behind next =
-      let end : segment ≡ length s.segments = next.0 in
+      let end : segment ≡ length s.segments = next.here in
       let at : length s.segments - 1 ≡ n = omega arith in
       let is : last_segment s ≡ Some a = ap (slice_get s.segments) at ∙ there in
-      next_turn s n a new c there is (next.1 a is) (vsn_rises s a new is q.rises) q.may_write
+      next_turn s n a new c there is (next.shut a is) (vsn_rises s a new is q.rises) q.may_write
 
   replaced : GoesOn s segment new.bytes → IsInTurn a new
   replaced on =
-      let at : IsSegment s (suc n) on.0 = ap (slice_get s.segments) here ∙ on.2 in
-      same_turn a on.0 new (c.in_turn n a on.0 there at) (same_role s segment on.0 new.role c on.2 on.3 on.4 q.may_write) (vsn_rises s on.0 new on.3 q.rises)
+      let at : IsSegment s (suc n) on.last = ap (slice_get s.segments) here ∙ (goes_there s segment new.bytes on) in
+      same_turn a on.last new (c.in_turn n a on.last there at) (same_role s segment on.last new.role c (goes_there s segment new.bytes on) on.is_last on.unshut q.may_write) (vsn_rises s on.last new on.is_last q.rises)
 
-pub put_in_turn : (s : MetaState) (segment : ℕ) (new : SegmentState) (spot : Option Spot) → IsConsistent s → IsPut s segment new spot
+pub put_in_turn : (s : MetaState) (segment : ℕ) (new : SegmentState) (spot : Option Spot) → IsConsistent s → MayBePut s segment new spot
     → (n : ℕ) (a b : SegmentState) → slice_get (put s segment new) n ≡ Some a → slice_get (put s segment new) (suc n) ≡ Some b → IsInTurn a b
 put_in_turn s segment new spot c q n a b a_there b_there =
     both (get_put s.segments segment new n a (put_within s segment new spot q) a_there) (get_put s.segments segment new (suc n) b (put_within s segment new spot q) b_there) where
@@ -219,10 +197,10 @@ put_each s segment new P within old one n x found = elim (get_put s.segments seg
   | inr (here, is) ↦ subst P is one
 ]
 
-pub put_lawful : (s : MetaState) (segment : ℕ) (new : SegmentState) (spot : Option Spot) → IsPut s segment new spot → IsLawful new
-put_lawful s segment new spot q = record { positive = q.positive; greatest = q.greatest; within = q.within; shut = λ ended. (q.end ended).closed }
+pub put_lawful : (s : MetaState) (segment : ℕ) (new : SegmentState) (spot : Option Spot) → MayBePut s segment new spot → IsLawful new
+put_lawful s segment new spot q = record { positive = q.positive; greatest = q.greatest; within = q.within; shut = λ ended. (q.end ended).shut }
 
-pub put_first : (s : MetaState) (segment : ℕ) (new : SegmentState) (spot : Option Spot) → IsConsistent s → IsPut s segment new spot
+pub put_first : (s : MetaState) (segment : ℕ) (new : SegmentState) (spot : Option Spot) → IsConsistent s → MayBePut s segment new spot
     → (x : SegmentState) → slice_get (put s segment new) 0 ≡ Some x → x.role ≡ role.Source
 put_first s segment new spot c q x found = elim (get_put s.segments segment new 0 x (put_within s segment new spot q) found) [
   | inl (before, there) ↦ c.first x there
@@ -234,11 +212,11 @@ put_first s segment new spot c q x found = elim (get_put s.segments segment new 
 
   first : 0 ≡ segment → new.role ≡ role.Source
   first zero_is = elim q.place [
-    | inl next ↦ none (zero_is ∙ next.0) new.role q.may_write
-    | inr on ↦ sym (same_role s segment on.0 new.role c on.2 on.3 on.4 q.may_write) ∙ c.first on.0 (ap (slice_get s.segments) zero_is ∙ on.2)
+    | inl next ↦ none (zero_is ∙ next.here) new.role q.may_write
+    | inr on ↦ sym (same_role s segment on.last new.role c (goes_there s segment new.bytes on) on.is_last on.unshut q.may_write) ∙ c.first on.last (ap (slice_get s.segments) zero_is ∙ (goes_there s segment new.bytes on))
   ]
 
-pub put_ends : (s : MetaState) (segment : ℕ) (new : SegmentState) (spot : Option Spot) → IsConsistent s → IsPut s segment new spot
+pub put_ends : (s : MetaState) (segment : ℕ) (new : SegmentState) (spot : Option Spot) → IsConsistent s → MayBePut s segment new spot
     → (r : Role) → list_any (ends_part r) (put s segment new) ≡ (is_ended r s || (new.ended && is_role new.role r))
 put_ends s segment new spot c q r = any ∙ ap (λ b. b || (new.ended && is_role new.role r)) (sym (c.ends r)) where
   unended : GoesOn s segment new.bytes → (on : SegmentState) → IsSegment s segment on → on.closed ≡ false → ends_part r on ≡ false
@@ -247,8 +225,8 @@ put_ends s segment new spot c q r = any ∙ ap (λ b. b || (new.ended && is_role
 
   any : list_any (ends_part r) (put s segment new) ≡ (list_any (ends_part r) s.segments || (new.ended && is_role new.role r))
   any = elim q.place [
-    | inl next ↦ any_push (ends_part r) s.segments segment new next.0
-    | inr on ↦ any_replace (ends_part r) s.segments segment new on.0 on.1 on.2 (unended on on.0 on.2 on.4)
+    | inl next ↦ any_push (ends_part r) s.segments segment new next.here
+    | inr on ↦ any_replace (ends_part r) s.segments segment new on.last on.here (goes_there s segment new.bytes on) (unended on on.last (goes_there s segment new.bytes on) on.unshut)
   ]
 
 -- the new one is the last
@@ -259,18 +237,18 @@ put_last s segment new x within found =
     same_Some new x (sym (put_there s.segments segment new within) ∙ ap (slice_get (put s segment new)) at ∙ found)
 
 -- a closed segment stays
-pub put_closed : (s : MetaState) (segment : ℕ) (new : SegmentState) (spot : Option Spot) → IsPut s segment new spot
+pub put_closed : (s : MetaState) (segment : ℕ) (new : SegmentState) (spot : Option Spot) → MayBePut s segment new spot
     → (n : ℕ) (x : SegmentState) → IsSegment s n x → x.closed ≡ true → slice_get (put s segment new) n ≡ Some x
 put_closed s segment new spot q n x there shut = put_front s.segments segment new n x (front q.place) there where
   inside : n < length s.segments
   inside = within_from s.segments n x there
 
   other : GoesOn s segment new.bytes → (n ≡ segment) → ⊥
-  other on here = false≢true (sym on.4 ∙ ap (λ (y : SegmentState). y.closed) (same_Some on.0 x (sym on.2 ∙ ap (slice_get s.segments) (sym here) ∙ there)) ∙ shut)
+  other on here = false≢true (sym on.unshut ∙ ap (λ (y : SegmentState). y.closed) (same_Some on.last x (sym (goes_there s segment new.bytes on) ∙ ap (slice_get s.segments) (sym here) ∙ there)) ∙ shut)
 
   front : IsNext s segment ⊎ GoesOn s segment new.bytes → n < segment
-  front (inl next) = let here : segment ≡ length s.segments = next.0 in omega (arith, inside)
+  front (inl next) = let here : segment ≡ length s.segments = next.here in omega (arith, inside)
   front (inr on) =
-      let here : suc segment ≡ length s.segments = on.1 in
+      let here : suc segment ≡ length s.segments = on.here in
       let apart : (n ≡ segment) → ⊥ = other on in
       omega (arith, inside)

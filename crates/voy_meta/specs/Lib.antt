@@ -14,3 +14,4 @@ pub mod FoldLaws
 pub mod MetaLaws
 pub mod Laws
 pub mod Growing
+pub mod Putting

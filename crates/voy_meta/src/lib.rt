@@ -46,7 +46,7 @@ pub use sides::{feeding, led_to};
 pub use stage::{Stage, StageWhy};
 pub use state::{MetaState, SegmentState, Segments, SnapshotState, Snapshots};
 pub use state_laws::{
-    closed_stays, consistent, records_join, refusals_tell, segments_stand, stages_go_on,
-    states_grow,
+    closed_stays, consistent, records_join, records_say, refusals_tell, segments_stand,
+    stages_go_on, states_grow,
 };
 pub use writing::payload_of;

@@ -134,6 +134,7 @@ impl Meta {
     ///
     /// `Refused` comes exactly where the stage does not allow it, with the first reason, and nothing changed. Any other
     /// error is that of [`Meta::put`].
+    #[tactic(auto, using(voy_disk::specs::ChangeLaws::others_still))]
     pub fn request_cutover<D: Disk>(
         &mut self,
         disk: &mut D,

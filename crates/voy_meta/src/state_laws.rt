@@ -1,4 +1,5 @@
 ghost use Rattle.voy_meta.specs.Growing.{GrowsByAll, GrowsByOne};
+ghost use Rattle.voy_meta.specs.Putting.{QueueRecordsSay, SnapshotsAreMissing};
 ghost use Rattle.voy_meta.specs.StateLaws.{ClosedStays, ConsistencyIsKept, FirstOfItsPart, NoFallBackIsSaid, NotRefusedIsAllowed, OneMoreState, OneMoreTest, OpenIsTheWriters, RecordsAreConsistent, SegmentsInOrder, StageIsTheLast, StageNeverFalls, StagesNeverFall, StatesJoin, TestsJoin};
 
 /// Law: what allowed records come to is consistent, and each allowed record keeps it so.
@@ -13,6 +14,13 @@ pub fn records_join()
     ensures tests { TestsJoin }
     ensures state_more { OneMoreState }
     ensures test_more { OneMoreTest }
+{}
+
+/// Law: what an allowed Queue record says, condition by condition; and a Snapshot record is allowed only where not all
+/// snapshots are recorded.
+pub fn records_say()
+    ensures queue { QueueRecordsSay }
+    ensures snapshot { SnapshotsAreMissing }
 {}
 
 /// Law: an allowed record changes no closed segment.
