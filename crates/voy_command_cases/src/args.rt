@@ -9,12 +9,12 @@ use voy_disk::MemSink;
 
 /// A host whose arguments have these bytes, and which has no environment.
 #[derive(Drop)]
-struct Args {
+struct ArgHost {
     alloc: Global,
     args: Vec<Vec<u8>>,
 }
 
-impl Alloc for Args {
+impl Alloc for ArgHost {
     type A = Global;
 
     fn alloc(&self) -> Global {
@@ -22,7 +22,7 @@ impl Alloc for Args {
     }
 }
 
-impl Env for Args {
+impl Env for ArgHost {
     fn arg(&self, i: usize, buf: &mut [u8]) -> Result<usize, FillError>
         ensures bound { WritesAtMost result buf.new }
     {
@@ -49,7 +49,7 @@ impl Env for Args {
 /// the piece that one argument is.
 pub fn args(alloc: Global, case: &Case) -> Result<String, Trouble> {
     let args = args_of(alloc, case)?;
-    match words_of(&Args { alloc, args }) {
+    match words_of(&ArgHost { alloc, args }) {
         Ok(words) => shown_words(alloc, &words),
         Err(answer) => shown_refusal(alloc, answer),
     }
