@@ -41,7 +41,7 @@ abbrev pub writes : MetaState → Role → Bool
 writes state role.Source = not state.ended_source
 writes state role.Target = state.ended_source && (has_fall_back state && not state.ended_target)
 
--- the last segment, with no fewer bytes and of the same exporter, where it is open; else the next number
+-- the last segment, with no fewer bytes, where it is open; else the next number
 abbrev pub goes_on : Option SegmentState → (count : ℕ) → (segment bytes : ℕ) → Bool
 goes_on None count segment bytes = segment == 0
 goes_on (Some last) count segment bytes =

@@ -28,7 +28,7 @@ pub record Grows (state later : MetaState) : Type 0 where
   pub segments : (n : ℕ) (s : SegmentState) → IsSegment state n s → (t : SegmentState) × IsSegment later n t × IsLonger s t
   pub last_vsn : vsn_before (last_segment state) ≤ vsn_before (last_segment later)
   pub spots : (r : Role) (spot : Spot) → last_of r state ≡ Some spot → (at : Spot) × (last_of r later ≡ Some at) × (is_up_to spot at ≡ true)
-  -- a part that is ended stays as it is
+  -- a part that is ended stays so, at its last place
   pub ended : (r : Role) → is_ended r state ≡ true → (is_ended r later ≡ true) × (last_of r later ≡ last_of r state)
   -- what was asked for, counted or done stays so
   pub requests : (to : Side) (b : Bool) → request_of to state ≡ Some b → request_of to later ≡ Some b

@@ -13,8 +13,8 @@
 //! - `refused` and `untouched` of `request_cutover`: it is refused just where the stage refuses it, and nothing is done then.
 //!
 //! `MetaStands` is what the metadata ask of the disk that they are lent, and callers carry it along: where it holds, every image
-//! of the disk reads as the state that [`Meta::state`] shows ([`metadata_stand`]). After an error the metadata are not live: open
-//! them again.
+//! of the disk reads as the state that [`Meta::state`] shows ([`metadata_stand`]). After an error that is no
+//! refusal the metadata are not live: open them again.
 #![tactic(auto)]
 
 mod allowed;

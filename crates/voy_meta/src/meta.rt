@@ -6,7 +6,7 @@ ghost use Rattle.voy_disk.specs.Files.{IfTold, bytes_now};
 ghost use Rattle.voy_disk.specs.Frames.{KeepsOtherFiles};
 ghost use Rattle.voy_disk.specs.Images.{ImagesOf};
 ghost use Rattle.voy_disk.specs.Steps.{DoesAll, Follows, LeavesPrefix, StaysTold};
-ghost use Rattle.voy_journal.specs.Exact.{AppendsEntry, OpensFile};
+ghost use Rattle.voy_journal.specs.Exact.{AppendsEntry, ReadsAsBefore, OpensFile};
 ghost use Rattle.voy_journal.specs.Journal.{KeepsPayloads};
 ghost use Rattle.voy_meta.specs.Allowed.{is_allowed};
 ghost use Rattle.voy_meta.specs.Exact.{OpensMeta};
@@ -62,6 +62,9 @@ impl Meta {
         // when each error comes
         ensures cause { HasCause MetaError.Fault (D.faults disk.old) (D.faults disk.new) result }
         ensures damaged { IfErr result (λ error. (offset : _) → error ≡ MetaError.Damaged offset → IfTold (D.files disk.old) (λ fs. IsMetaDamaged (bytes_now (fs meta_name)) offset)) }
+        // damaged metadata are left as they are
+        ensures kept { IfErr result (λ error. (offset : _) → error ≡ MetaError.Damaged offset → Follows (KeepsPayloads meta_name) (ImagesOf (D.files disk.old)) (ImagesOf (D.files disk.new))) }
+        ensures bytes { IfErr result (λ error. (offset : _) → error ≡ MetaError.Damaged offset → Change (ReadsAsBefore meta_name) (D.files disk.old) (D.files disk.new)) }
     {
         let mut meta = open_recorded(alloc, disk)?;
         if meta.state.version == VERSION {
@@ -214,6 +217,7 @@ fn open_recorded<D: Disk>(alloc: Global, disk: &mut D) -> Result<Meta, MetaError
     ensures stands { IfOk result (λ meta. RecordsStand meta (D.files disk.new)) }
     ensures live { IfOk result (λ meta. IsTrue (is_live meta)) }
     ensures exact { OnOk result (Change (OpensFile meta_name) (D.files disk.old) (D.files disk.new)) }
+    ensures bytes { Change (ReadsAsBefore meta_name) (D.files disk.old) (D.files disk.new) }
     ensures images { Follows (KeepsPayloads meta_name) (ImagesOf (D.files disk.old)) (ImagesOf (D.files disk.new)) }
     ensures others { Change (KeepsOtherFiles meta_name) (D.files disk.old) (D.files disk.new) }
     ensures told { StaysTold (ImagesOf (D.files disk.old)) (ImagesOf (D.files disk.new)) }

@@ -5,7 +5,7 @@ ghost use Rattle.voy_disk.specs.Files.{IfTold, bytes_now};
 ghost use Rattle.voy_disk.specs.Frames.{KeepsOtherFiles};
 ghost use Rattle.voy_disk.specs.Images.{ImagesOf};
 ghost use Rattle.voy_disk.specs.Steps.{Follows, StaysTold};
-ghost use Rattle.voy_journal.specs.Exact.{OpensFile};
+ghost use Rattle.voy_journal.specs.Exact.{OpensFile, ReadsAsBefore};
 ghost use Rattle.voy_journal.specs.Grammar.{DamagedAt, FitAFile, HasPayloads};
 ghost use Rattle.voy_journal.specs.Journal.{KeepsPayloads, StandsOn, is_live, journal_name, known_payloads};
 ghost use Rattle.voy_meta.specs.Meta.{bad_gate, meta_name, state_with};
@@ -28,6 +28,7 @@ pub(crate) fn open_journal<D: Disk>(alloc: Global, disk: &mut D) -> Result<Opene
     ensures name { IfOk result (λ opened. journal_name opened.journal ≡ meta_name) }
     ensures fits { IfOk result (λ opened. FitAFile opened.payloads) }
     ensures exact { OnOk result (Change (OpensFile meta_name) (D.files disk.old) (D.files disk.new)) }
+    ensures bytes { Change (ReadsAsBefore meta_name) (D.files disk.old) (D.files disk.new) }
     ensures images { Follows (KeepsPayloads meta_name) (ImagesOf (D.files disk.old)) (ImagesOf (D.files disk.new)) }
     ensures others { Change (KeepsOtherFiles meta_name) (D.files disk.old) (D.files disk.new) }
     ensures told { StaysTold (ImagesOf (D.files disk.old)) (ImagesOf (D.files disk.new)) }
