@@ -1,0 +1,70 @@
+-- What contracts see of a writer, and what it asks of the disk that it is lent.
+use Rattle.std.specs.Prelude.{◌≡◌, ◌≢◌, ℕ, List, ◌∷◌, Option, Some, length, map}
+use Rattle.voy_disk.specs.File.{settled}
+use Rattle.voy_disk.specs.Files.{Files, IfTold}
+use Rattle.voy_disk.specs.Fronts.{HasFront}
+use Rattle.voy_disk.specs.Images.{Image}
+use Rattle.voy_event.specs.declared.event.Event.{Event}
+use Rattle.voy_meta.specs.Meta.{meta_name}
+use Rattle.voy_meta.specs.declared.record.MetaRecord.{MetaRecord}
+use Rattle.voy_queue.specs.Names.{segment_name}
+use Rattle.voy_queue.specs.Putting.{MayFollow, commit_of, end_of, entry_of}
+use Rattle.voy_queue.specs.Shelf.{Commits, shelf_in}
+use Rattle.voy_queue.specs.declared.end.Added.{Added}
+use Rattle.voy_queue.specs.declared.end.End.{End}
+use Rattle.voy_queue.specs.declared.writer.Writer.{Writer}
+use Rattle.voy_schema.specs.declared.table.Table.{Table}
+use Rattle.voy_tables.specs.declared.change.Role.{Role}
+use Rattle.voy_tables.specs.declared.change.Spot.{Spot}
+
+-- whose events it puts
+abbrev pub writer_role : Writer → Role
+writer_role writer = writer.role
+
+-- at how many bytes of event lines it closes a segment
+abbrev pub closing_size : Writer → ℕ
+closing_size writer = writer.max_bytes
+
+-- where the queue ends by the last commit, and with what was put since
+abbrev pub committed_end : Writer → End
+committed_end writer = writer.end
+
+abbrev pub pending : Writer → List Added
+pending writer = writer.pending
+
+abbrev pub writer_end : Writer → End
+writer_end writer = end_of writer.end writer.pending
+
+-- what a commit adds, in order: records, and records with their bytes
+abbrev pub entries_of : Writer → List MetaRecord
+entries_of writer = map (entry_of writer.role) writer.pending
+
+abbrev pub commits_of : Writer → List Commits
+commits_of writer = map (commit_of writer.role) writer.pending
+
+-- the files that a commit writes: those of the segments, and the metadata
+abbrev pub commit_names : Writer → List (List ℕ)
+commit_names writer = meta_name ∷ map (λ (one : Added). segment_name one.end.number) writer.pending
+
+-- an event that may be put
+abbrev pub MayPut : List Table → Writer → Event → Option Spot → Type 0
+MayPut schema writer event spot = MayFollow schema writer.role (writer_end writer) event spot
+
+-- what a writer asks of the disk that it is lent, where told: the file of the last segment has just its committed bytes, all safe
+pub record StandsIn (end : End) (files : Files) : Type 0 where
+  pub content : List ℕ
+  pub size : length content ≡ end.bytes
+  pub file : end.bytes ≢ 0 → files (segment_name end.number) ≡ Some (settled content)
+
+abbrev pub WriterStands : Writer → Option Files → Type 0
+WriterStands writer files = IfTold files (StandsIn writer.end)
+
+-- the committed bytes of the last segment are the same in every image
+pub record EndIsSafe (end : End) (images : Image → Type 0) : Type 0 where
+  pub front : List ℕ
+  pub size : length front ≡ end.bytes
+  pub has : HasFront (segment_name end.number) front images
+
+-- the image reads as the same shelf
+abbrev pub KeepsShelf : Image → Image → Type 0
+KeepsShelf i j = shelf_in j ≡ shelf_in i

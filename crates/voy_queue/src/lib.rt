@@ -1,0 +1,19 @@
+//! The queue of events: segments with committed sizes, which a writer makes and a reader reads back.
+//!
+//! The queue of an export disk is what its committed bytes read as (`queue_reading` of `specs/Reading.antt`): the sizes stand in the
+//! metadata, and bytes behind them are no part of it. A writer gathers what is put, and its commit makes the bytes safe before
+//! their records.
+#![tactic(auto)]
+
+mod end;
+mod error;
+mod limits;
+mod names;
+mod reader;
+mod writer;
+
+pub use end::{Added, End, Pending};
+pub use error::QueueError;
+pub use limits::MAX_SEGMENT_BYTES;
+pub use reader::Reader;
+pub use writer::Writer;
