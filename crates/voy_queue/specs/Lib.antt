@@ -6,3 +6,4 @@ pub mod Putting
 pub mod Reader
 pub mod Writer
 pub mod Laws
+pub mod Behind

@@ -1,5 +1,5 @@
 -- What contracts see of a writer, and what it asks of the disk that it is lent.
-use Rattle.std.specs.Prelude.{◌≡◌, ◌≢◌, ℕ, List, ◌∷◌, Option, Some, length, map}
+use Rattle.std.specs.Prelude.{◌≡◌, ◌≢◌, ℕ, Bool, List, ◌∷◌, Option, Some, length, map}
 use Rattle.voy_disk.specs.File.{settled}
 use Rattle.voy_disk.specs.Files.{Files, IfTold}
 use Rattle.voy_disk.specs.Fronts.{HasFront}
@@ -16,6 +16,10 @@ use Rattle.voy_queue.specs.declared.writer.Writer.{Writer}
 use Rattle.voy_schema.specs.declared.table.Table.{Table}
 use Rattle.voy_tables.specs.declared.change.Role.{Role}
 use Rattle.voy_tables.specs.declared.change.Spot.{Spot}
+
+-- events may be put and committed
+abbrev pub is_live : Writer → Bool
+is_live writer = writer.live
 
 -- whose events it puts
 abbrev pub writer_role : Writer → Role

@@ -1,5 +1,18 @@
-use voy_schema::{Bytes, Items};
+ghost use Rattle.std.specs.Prelude.{◌≡◌, ◌≤◌, ◌<◌, ◌+◌, ◌^◌, [], false, length, OnOk};
+ghost use Rattle.voy_event.specs.EventLine.{max_event_line_bytes};
+ghost use Rattle.voy_event.specs.LawfulEvent.{IsLawful};
+ghost use Rattle.voy_event.specs.LineText.{line_text};
+ghost use Rattle.voy_meta.specs.declared.limits.TheConstants.{MAX_SEGMENT, OPEN_SEGMENT_BYTES};
+ghost use Rattle.voy_queue.specs.Putting.{added_to, room_for};
+
+use crate::cutover::is_cutover;
+use std::alloc::{AllocError, Global};
+use voy_event::{CLOSING_LINE, Event, write_line};
+use voy_schema::{Bytes, Items, Schema};
 use voy_tables::Spot;
+
+/// The byte that ends a line.
+const LINE_FEED: u8 = 10;
 
 /// Where the queue ends: its last segment, and what was put into it.
 #[derive(Clone, Copy, Debug, PartialEq, Eq)]
@@ -29,3 +42,69 @@ pub struct Added {
 
 /// What was put since the last commit, segment by segment.
 pub type Pending = Items<Added>;
+
+impl End {
+    /// Where the next line goes: here where the segment is open, else at the beginning of the next one.
+    pub(crate) fn room(self) -> End
+        requires { (room_for self).number ≤ MAX_SEGMENT }
+        ensures { result ≡ room_for self }
+    {
+        if !self.closed {
+            return self;
+        }
+        End {
+            number: self.number + 1,
+            bytes: 0,
+            closed: false,
+            ..self
+        }
+    }
+}
+
+impl Added {
+    /// Nothing yet, where the next line goes.
+    pub(crate) fn at(alloc: Global, end: End) -> Added
+        ensures { result ≡ record { end = end; bytes = [] } }
+    {
+        Added {
+            end,
+            bytes: Items::new(alloc),
+        }
+    }
+
+    /// Puts the lines of an event into an open segment: its own, and the closing line where it closes the segment.
+    pub(crate) fn put(
+        &mut self,
+        alloc: Global,
+        schema: &Schema,
+        max_bytes: u64,
+        event: &Event,
+        spot: Option<Spot>,
+    ) -> Result<(), AllocError>
+        requires open { self.old.end.closed ≡ false }
+        requires small { self.old.end.bytes < OPEN_SEGMENT_BYTES }
+        requires lawful { IsLawful schema.now.tables event.now }
+        requires short { length (line_text schema.now.tables event.now) ≤ max_event_line_bytes }
+        ensures { OnOk result (self.new ≡ added_to schema.now.tables max_bytes self.old event.now spot) }
+    {
+        let before = self.bytes.len();
+        write_line(alloc, schema, event, &mut self.bytes)?;
+        self.bytes.push(LINE_FEED)?;
+        let bytes = self.end.bytes + (self.bytes.len() - before) as u64;
+        let ended = is_cutover(event);
+        let closed = bytes >= max_bytes || ended;
+        if closed {
+            self.bytes.append_slice(CLOSING_LINE)?;
+            self.bytes.push(LINE_FEED)?;
+        }
+        self.end = End {
+            number: self.end.number,
+            bytes: self.end.bytes + (self.bytes.len() - before) as u64,
+            last_vsn: event.vsn,
+            spot: spot.or(self.end.spot),
+            closed,
+            ended,
+        };
+        Ok(())
+    }
+}

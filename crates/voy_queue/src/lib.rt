@@ -5,10 +5,12 @@
 //! their records.
 #![tactic(auto)]
 
+mod cutover;
 mod end;
 mod error;
 mod limits;
 mod names;
+mod put;
 mod reader;
 mod writer;
 

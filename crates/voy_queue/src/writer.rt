@@ -1,3 +1,9 @@
+ghost use Rattle.std.specs.Prelude.{◌<◌, ◌≤◌, ◌≡◌, false};
+ghost use Rattle.voy_meta.specs.declared.limits.TheConstants.{OPEN_SEGMENT_BYTES};
+ghost use Rattle.voy_queue.specs.Behind.{are_behind_prop};
+ghost use Rattle.voy_queue.specs.Putting.{AreBehind};
+ghost use Rattle.voy_queue.specs.declared.limits.TheConstants.{MAX_SEGMENT_BYTES};
+
 use crate::end::{End, Pending};
 use std::alloc::Global;
 use voy_tables::Role;
@@ -14,7 +20,11 @@ pub struct Writer {
     pub(crate) max_bytes: u64,
     /// Where the queue ends by the metadata.
     pub(crate) end: End,
+    /// What was put behind it.
     pub(crate) pending: Pending,
     /// Whether events may be put and committed.
     pub(crate) live: bool,
+    ghost behind: { AreBehind end pending } by { are_behind_prop end pending },
+    ghost size: { max_bytes ≤ MAX_SEGMENT_BYTES },
+    ghost room: { end.closed ≡ false → end.bytes < OPEN_SEGMENT_BYTES },
 }
