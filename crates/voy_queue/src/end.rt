@@ -1,9 +1,10 @@
-ghost use Rattle.std.specs.Prelude.{◌≡◌, ◌≤◌, ◌<◌, ◌+◌, ◌^◌, [], false, length, OnOk};
+ghost use Rattle.std.specs.Prelude.{◌≡◌, ◌++◌, ◌≤◌, ◌<◌, ◌+◌, ◌^◌, [], false, length, OnOk};
 ghost use Rattle.voy_event.specs.EventLine.{max_event_line_bytes};
-ghost use Rattle.voy_event.specs.LawfulEvent.{IsLawful};
+ghost use Rattle.voy_event.specs.LawfulEvent.{IsLawful, IsWritable};
 ghost use Rattle.voy_event.specs.LineText.{line_text};
 ghost use Rattle.voy_meta.specs.declared.limits.TheConstants.{MAX_SEGMENT, OPEN_SEGMENT_BYTES};
-ghost use Rattle.voy_queue.specs.Putting.{added_to, room_for};
+ghost use Rattle.voy_queue.specs.Lines.{closing_bytes, event_bytes};
+ghost use Rattle.voy_queue.specs.Putting.{added_to, closes, room_for};
 
 use crate::cutover::is_cutover;
 use std::alloc::{AllocError, Global};
@@ -88,23 +89,51 @@ impl Added {
         ensures { OnOk result (self.new ≡ added_to schema.now.tables max_bytes self.old event.now spot) }
     {
         let before = self.bytes.len();
-        write_line(alloc, schema, event, &mut self.bytes)?;
-        self.bytes.push(LINE_FEED)?;
+        append_line(alloc, schema, event, &mut self.bytes)?;
         let bytes = self.end.bytes + (self.bytes.len() - before) as u64;
-        let ended = is_cutover(event);
-        let closed = bytes >= max_bytes || ended;
-        if closed {
-            self.bytes.append_slice(CLOSING_LINE)?;
-            self.bytes.push(LINE_FEED)?;
-        }
+        let closed = closes(max_bytes, bytes, event);
+        append_closing(closed, &mut self.bytes)?;
         self.end = End {
             number: self.end.number,
             bytes: self.end.bytes + (self.bytes.len() - before) as u64,
             last_vsn: event.vsn,
             spot: spot.or(self.end.spot),
             closed,
-            ended,
+            ended: is_cutover(event),
         };
         Ok(())
     }
+}
+
+/// Appends the line of an event, with LF.
+fn append_line(
+    alloc: Global,
+    schema: &Schema,
+    event: &Event,
+    to: &mut Bytes,
+) -> Result<(), AllocError>
+    requires { IsWritable schema.now.tables event.now }
+    ensures { OnOk result (to.new ≡ to.old ++ event_bytes schema.now.tables event.now) }
+{
+    write_line(alloc, schema, event, to)?;
+    to.push(LINE_FEED)
+}
+
+/// Appends the closing line, with LF, where the segment is closed.
+#[tactic(auto, unfolding(voy_event::specs::Events::closing_line))]
+fn append_closing(closed: bool, to: &mut Bytes) -> Result<(), AllocError>
+    ensures { OnOk result (to.new ≡ to.old ++ closing_bytes closed) }
+{
+    if closed {
+        to.append_slice(CLOSING_LINE)?;
+        to.push(LINE_FEED)?;
+    }
+    Ok(())
+}
+
+/// Whether an event closes the segment whose event lines have so many bytes with it.
+fn closes(max_bytes: u64, bytes: u64, event: &Event) -> bool
+    ensures { result ≡ closes max_bytes bytes event.now }
+{
+    max_bytes <= bytes || is_cutover(event)
 }
