@@ -7,3 +7,4 @@ pub mod Reader
 pub mod Writer
 pub mod Laws
 pub mod Behind
+pub mod Asking

@@ -5,6 +5,7 @@
 //! their records.
 #![tactic(auto)]
 
+mod asking;
 mod cutover;
 mod end;
 mod error;
