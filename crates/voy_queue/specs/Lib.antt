@@ -8,3 +8,4 @@ pub mod Writer
 pub mod Laws
 pub mod Behind
 pub mod Asking
+pub mod PuttingLaws

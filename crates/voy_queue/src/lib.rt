@@ -9,6 +9,7 @@ mod asking;
 mod cutover;
 mod end;
 mod error;
+mod laws;
 mod limits;
 mod names;
 mod put;
@@ -17,6 +18,7 @@ mod writer;
 
 pub use end::{Added, End, Pending};
 pub use error::QueueError;
+pub use laws::puts_are_behind;
 pub use limits::MAX_SEGMENT_BYTES;
 pub use reader::Reader;
 pub use writer::Writer;
