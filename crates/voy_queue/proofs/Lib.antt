@@ -1,3 +1,12 @@
 mod NameLemmas
 mod PendingLemmas
 mod AskingLemmas
+mod FirstLemmas
+mod LineLemmas
+mod WholeLemmas
+mod MadeLemmas
+mod OpenLemmas
+mod HeldLemmas
+mod ReadyLemmas
+mod StepLemmas
+mod WrittenLemmas
