@@ -9,3 +9,4 @@ pub mod Laws
 pub mod Behind
 pub mod Asking
 pub mod PuttingLaws
+pub mod Errors

@@ -12,3 +12,28 @@ pub enum QueueError {
     /// Memory was refused.
     NoMemory,
 }
+
+impl From<DiskError> for QueueError {
+    ghost use Rattle.std.specs.Prelude.{◌≡◌};
+    ghost use Rattle.voy_queue.specs.Errors.{of_disk};
+
+    ghost from_gives = { λ error given. given ≡ of_disk error };
+
+    fn from(error: DiskError) -> QueueError {
+        match error {
+            DiskError::Failed => QueueError::Fault,
+            DiskError::NoMemory => QueueError::NoMemory,
+        }
+    }
+}
+
+impl From<AllocError> for QueueError {
+    ghost use Rattle.std.specs.Prelude.{◌≡◌};
+    ghost use Rattle.voy_queue.specs.declared.error.QueueError.TheVariants.{NoMemory};
+
+    ghost from_gives = { λ _ error. error ≡ NoMemory };
+
+    fn from(_refused: AllocError) -> QueueError {
+        QueueError::NoMemory
+    }
+}

@@ -1,7 +1,7 @@
 ghost use Rattle.std.specs.Prelude.{◌≡◌, ◌≤◌, ◌<◌, ℕ, List, [], ◌∷◌, ◌++◌, Option, false, IsTrue, IsFalse, OnErr, OnOk};
 ghost use Rattle.voy_event.specs.declared.event.Event.{Event};
 ghost use Rattle.voy_meta.specs.declared.limits.TheConstants.{MAX_SEGMENT, OPEN_SEGMENT_BYTES};
-ghost use Rattle.voy_queue.specs.Putting.{AreBehind, added_to, end_of, pending_after, room_for};
+ghost use Rattle.voy_queue.specs.Putting.{AreBehind, added_to, end_after, end_of, pending_after, room_for};
 ghost use Rattle.voy_queue.specs.Writer.{MayPut, closing_size, committed_end, is_live, pending, writer_end, writer_role};
 ghost use Rattle.voy_schema.specs.declared.table.Table.{Table};
 ghost use Rattle.voy_tables.specs.declared.change.Spot.{Spot};
@@ -29,6 +29,8 @@ impl Writer {
         requires may { MayPut schema.now.tables self.old event.now spot }
         ensures pending { OnOk result (pending self.new ≡
             pending_after schema.now.tables (closing_size self.old) (committed_end self.old) (pending self.old) event.now spot) }
+        ensures next { OnOk result (writer_end self.new ≡
+            end_after schema.now.tables (closing_size self.old) (writer_end self.old) event.now spot) }
         ensures end { committed_end self.new ≡ committed_end self.old }
         ensures role { writer_role self.new ≡ writer_role self.old }
         ensures size { closing_size self.new ≡ closing_size self.old }
