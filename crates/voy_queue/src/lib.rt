@@ -14,6 +14,10 @@ mod limits;
 mod names;
 mod put;
 mod reader;
+mod reading;
+mod roles;
+mod segment;
+mod segment_reading;
 mod writer;
 
 pub use end::{Added, End, Pending};
