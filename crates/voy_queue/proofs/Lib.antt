@@ -7,6 +7,7 @@ mod MadeLemmas
 mod NameLemmas
 mod OpenLemmas
 mod PendingLemmas
+mod ReaderLemmas
 mod ReadyLemmas
 mod SegmentLemmas
 mod StepLemmas

@@ -47,7 +47,7 @@ pub not_due_damages : (schema : List Table) (number : ℕ) (segment : SegmentSta
     → events_reading schema number segment (suc count) offset bytes behind ≡ damaged_at number offset
 not_due_damages schema number segment count offset bytes line rest behind found due =
     ap (λ (o : Option (List ℕ × List ℕ)). with_line number offset o (λ line rest. with_event number offset (due_event schema segment (segment.last_vsn - count) line)
-      (events_reading schema number segment count (offset + (length line + 1)) rest behind))) found
+    (events_reading schema number segment count (offset + (length line + 1)) rest behind))) found
     ∙ ap (λ o. with_event number offset o (events_reading schema number segment count (offset + (length line + 1)) rest behind)) due
 
 pub due_goes_on : (schema : List Table) (number : ℕ) (segment : SegmentState) (count offset : ℕ) (bytes line rest : List ℕ) (behind : QueueReading) (event : Event)
@@ -56,7 +56,7 @@ pub due_goes_on : (schema : List Table) (number : ℕ) (segment : SegmentState) 
     ≡ behind_event event (events_reading schema number segment count (offset + (length line + 1)) rest behind)
 due_goes_on schema number segment count offset bytes line rest behind event found due =
     ap (λ (o : Option (List ℕ × List ℕ)). with_line number offset o (λ line rest. with_event number offset (due_event schema segment (segment.last_vsn - count) line)
-      (events_reading schema number segment count (offset + (length line + 1)) rest behind))) found
+    (events_reading schema number segment count (offset + (length line + 1)) rest behind))) found
     ∙ ap (λ o. with_event number offset o (events_reading schema number segment count (offset + (length line + 1)) rest behind)) due
 
 -- ---- the end of a segment

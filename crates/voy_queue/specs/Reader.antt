@@ -1,5 +1,5 @@
 -- What a reader has left.
-use Rattle.std.specs.Prelude.{◌≡◌, ◌<◌, ℕ, ◌-◌, List, [], Option, Some, None, drop}
+use Rattle.std.specs.Prelude.{ℕ, ◌-◌, Bool, false, nat_lt, List, [], Option, Some, None, drop}
 use Rattle.voy_disk.specs.Files.{Files, bytes_now}
 use Rattle.voy_files.specs.Reader.{held}
 use Rattle.voy_queue.specs.Names.{segment_name}
@@ -27,8 +27,12 @@ abbrev pub left : List Table → Reader → Files → QueueReading
 left schema reader files = left_in schema reader files reader.current
 
 -- the segment that is read has an event left
-abbrev pub HasEvent : Reader → Type 0
-HasEvent reader = (segment : OpenSegment) × (reader.current ≡ Some segment) × (reader.vsn < segment.state.last_vsn)
+abbrev pub has_event_in : (vsn : ℕ) → Option OpenSegment → Bool
+has_event_in vsn None = false
+has_event_in vsn (Some segment) = nat_lt vsn segment.state.last_vsn
+
+abbrev pub has_event : Reader → Bool
+has_event reader = has_event_in reader.vsn reader.current
 
 -- what was read from the disk and not given yet
 abbrev pub ahead_in : Option OpenSegment → List ℕ

@@ -1,4 +1,5 @@
-ghost use Rattle.std.specs.Prelude.{◌≡◌, Some};
+ghost use Rattle.std.specs.Prelude.{◌≡◌, ◌≤◌, suc, length, Some};
+ghost use Rattle.voy_meta.specs.declared.limits.TheConstants.{MAX_SEGMENT};
 ghost use Rattle.voy_queue.specs.Segment.{IsAtLine};
 ghost use Rattle.voy_queue.specs.declared.segment.OpenSegment.{OpenSegment};
 
@@ -20,5 +21,6 @@ pub struct Reader {
     pub(crate) vsn: u64,
     /// The segment that is read.
     pub(crate) current: Option<OpenSegment>,
+    ghost few: { length segments ≤ suc MAX_SEGMENT },
     ghost stands: { (segment : OpenSegment) → current ≡ Some segment → IsAtLine segment },
 }

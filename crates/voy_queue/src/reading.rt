@@ -1,8 +1,9 @@
-ghost use Rattle.std.specs.Prelude.{◌≡◌, ◌≤◌, ◌<◌, ℕ, suc, List, None, length, IfErr, IfOk, IfSome, IfNone, IsTrue, IsFalse, ◌↔◌, OnOk};
+ghost use Rattle.std.specs.Prelude.{◌≡◌, ◌≤◌, ◌<◌, ℕ, suc, List, None, length, IfErr, IfOk, IfSome, IfNone, IsTrue, IsFalse, OnOk};
 ghost use Rattle.voy_disk.specs.Faults.{HasCause};
 ghost use Rattle.voy_disk.specs.Files.{Files, IfTold};
 ghost use Rattle.voy_files.specs.declared.limits.TheConstants.{PIECE_BYTES};
-ghost use Rattle.voy_queue.specs.Reader.{HasEvent, ahead_of, files_content, left};
+ghost use Rattle.voy_meta.specs.declared.limits.TheConstants.{MAX_SEGMENT};
+ghost use Rattle.voy_queue.specs.Reader.{ahead_of, files_content, has_event, left};
 ghost use Rattle.voy_queue.specs.Reading.{behind_event, nothing_left, reading_from, vsn_in_front};
 ghost use Rattle.voy_queue.specs.Segment.{Tells};
 ghost use Rattle.voy_schema.specs.declared.table.Table.{Table};
@@ -20,7 +21,8 @@ use voy_schema::{Items, Schema};
 impl Reader {
     /// A reader of the segments that `state` records, from the one of this number on.
     pub fn open(alloc: Global, state: &MetaState, from: u32) -> Result<Reader, AllocError>
-        requires { from ≤ length state.now.segments }
+        requires from { from ≤ length state.now.segments }
+        requires numbered { length state.now.segments ≤ suc MAX_SEGMENT }
         ensures { IfOk result (λ reader. (schema : List Table) (files : Files) →
             left schema reader files ≡ reading_from schema (files_content files) state.now from) }
     {
@@ -73,7 +75,7 @@ impl Reader {
 
     /// Goes on to a segment that has an event left; false where none has.
     fn find_event<D: Disk>(&mut self, disk: &mut D) -> Result<bool, QueueError>
-        ensures found { IfOk result (λ found. IsTrue found → HasEvent self.new) }
+        ensures found { IfOk result (λ found. IsTrue found → IsTrue (has_event self.new)) }
         ensures none { IfOk result (λ found. IsFalse found → IfTold (D.files disk.old) (λ fs. (schema : List Table) → left schema self.new fs ≡ nothing_left)) }
         ensures left { IfOk result (λ _. IfTold (D.files disk.old) (λ fs. (schema : List Table) → left schema self.new fs ≡ left schema self.old fs)) }
         ensures damaged { IfErr result (λ error. IfTold (D.files disk.old) (λ fs. (schema : List Table) → Tells error (left schema self.old fs))) }
@@ -82,17 +84,33 @@ impl Reader {
         ensures lender { D.lender disk.new ≡ D.lender disk.old }
     {
         while !self.has_event() {
-            self.end_segment(disk)?;
-            if !self.begin_segment()? {
+            if !self.go_on(disk)? {
                 return Ok(false);
             }
         }
         Ok(true)
     }
 
+    /// Ends the segment that is read, which has no event left, and begins the next; false where there is none.
+    fn go_on<D: Disk>(&mut self, disk: &mut D) -> Result<bool, QueueError>
+        requires { IsFalse (has_event self.old) }
+        ensures more { IfOk result (λ more. IsTrue more → (self.new.next ≡ suc self.old.next) × (self.old.next < length self.old.segments)) }
+        ensures segments { self.new.segments ≡ self.old.segments }
+        ensures none { IfOk result (λ more. IsFalse more → IfTold (D.files disk.old) (λ fs. (schema : List Table) → left schema self.new fs ≡ nothing_left)) }
+        ensures left { IfOk result (λ _. IfTold (D.files disk.old) (λ fs. (schema : List Table) → left schema self.new fs ≡ left schema self.old fs)) }
+        ensures damaged { IfErr result (λ error. IfTold (D.files disk.old) (λ fs. (schema : List Table) → Tells error (left schema self.old fs))) }
+        ensures same { D.files disk.new ≡ D.files disk.old }
+        ensures cause { HasCause QueueError.Fault (D.faults disk.old) (D.faults disk.new) result }
+        ensures lender { D.lender disk.new ≡ D.lender disk.old }
+    {
+        self.end_segment(disk)?;
+        let begun = self.begin_segment()?;
+        Ok(begun)
+    }
+
     /// Whether the segment that is read has an event left.
     fn has_event(&self) -> bool
-        ensures { IsTrue result ↔ HasEvent self.now }
+        ensures { result ≡ has_event self.now }
     {
         match &self.current {
             Some(segment) => self.vsn < segment.state.last_vsn,
@@ -102,7 +120,7 @@ impl Reader {
 
     /// Ends the segment that is read, which has no event left.
     fn end_segment<D: Disk>(&mut self, disk: &mut D) -> Result<(), QueueError>
-        requires { HasEvent self.old → ⊥ }
+        requires { IsFalse (has_event self.old) }
         ensures none { IfOk result (λ _. self.new.current ≡ None) }
         ensures next { self.new.next ≡ self.old.next }
         ensures segments { self.new.segments ≡ self.old.segments }
@@ -140,7 +158,7 @@ impl Reader {
 
     /// The next event of the segment that is read.
     fn take_event<D: Disk>(&mut self, disk: &mut D, schema: &Schema) -> Result<Event, QueueError>
-        requires { HasEvent self.old }
+        requires { IsTrue (has_event self.old) }
         ensures some { IfOk result (λ event. IfTold (D.files disk.old) (λ fs.
             left schema.now.tables self.old fs ≡ behind_event event (left schema.now.tables self.new fs))) }
         ensures damaged { IfErr result (λ error. IfTold (D.files disk.old) (λ fs. Tells error (left schema.now.tables self.old fs))) }

@@ -141,7 +141,12 @@ impl OpenSegment {
     }
 
     /// The event of the line that was found, where it is the one that must stand there.
-    fn due_event(&self, alloc: Global, schema: &Schema, vsn: u64) -> Result<Option<Event>, AllocError>
+    fn due_event(
+        &self,
+        alloc: Global,
+        schema: &Schema,
+        vsn: u64,
+    ) -> Result<Option<Event>, AllocError>
         ensures { IfOk result (λ event. event ≡ due_event schema.now.tables self.now.state vsn (found_line self.now.lines)) }
     {
         match read_line(alloc, schema, self.lines.line()) {

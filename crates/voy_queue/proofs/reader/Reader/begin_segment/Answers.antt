@@ -1,21 +1,21 @@
-use Rattle.std.proofs.Common.{rules, ◌≡◌, ◌≤◌, ◌<◌, ℕ, suc, List, None, length, IfErr, IfOk, IfSome, IfNone, IsTrue, IsFalse, ◌↔◌, OnOk, ◌+◌, ◌-◌, ◌*◌, ◌/◌, ◌%◌, Bool, true, false, nat_eq, nat_lt, [], ◌∷◌, ◌++◌, slice_index_or, slice_set, bit_and, bit_or, Fits, w8, w32, w64, Bor, MutBor}
-use Rattle.voy_disk.specs.Faults.{HasCause}
-use Rattle.voy_disk.specs.Files.{Files, IfTold}
-use Rattle.voy_files.specs.declared.limits.TheConstants.{PIECE_BYTES}
-use Rattle.voy_queue.specs.Reader.{HasEvent, ahead_of, files_content, left}
-use Rattle.voy_queue.specs.Reading.{behind_event, nothing_left, reading_from, vsn_in_front}
-use Rattle.voy_queue.specs.Segment.{Tells}
-use Rattle.voy_schema.specs.declared.table.Table.{Table}
+use Rattle.std.proofs.Common.{◌≡◌, ◌∙◌, ap, sym, rules}
+use Rattle.std.specs.Prelude.{take}
+use Rattle.voy_disk.specs.Files.{bytes_now}
+use Rattle.voy_files.specs.Reader.{unread}
+use Rattle.voy_queue.proofs.ReaderLemmas.{begun_left, nothing_behind}
+use Rattle.voy_queue.specs.Reader.{files_content, left_in}
 use Rattle.voy_queue.proofs.reader.Reader.begin_segment.Goals as goal
 
--- src/reading.rt:132:13
+-- there is no further segment
 pub returns-in_default-clause-none : goal.returns-in_default-clause-none
-returns-in_default-clause-none c = ?
+returns-in_default-clause-none c never schema fs =
+    let old = c.args.self.now in
+    ap (left_in schema old fs) c.requires ∙ nothing_behind schema (files_content fs) old.next old.vsn old.segments (sym c.in_default.ensures.value)
 
--- src/reading.rt:137:9
-pub overflow_add-self : goal.overflow_add-self
-overflow_add-self c = ?
-
--- src/reading.rt:123:5
 pub returns-clause-left : goal.returns-clause-left
-returns-clause-left c = ?
+returns-clause-left c schema fs =
+    let old = c.args.self.now in
+    let bytes = c.new.ensures.lines fs ∙ ap (λ name. take c.in-Some.state.now.bytes (bytes_now (fs name))) c.in_ok-name.ensures in
+    begun_left schema (files_content fs) old.next old.vsn old.segments c.in-Some.state.now (sym c.in-Some.ensures.value)
+    c.new.result.number c.new.result.state c.new.result.offset (unread c.new.result.lines fs) c.new.ensures.number c.new.ensures.state c.new.ensures.offset bytes
+    ∙ sym (ap (left_in schema old fs) c.requires)

@@ -1,21 +1,5 @@
-use Rattle.std.proofs.Common.{rules, ◌≡◌, ◌≤◌, ◌<◌, ℕ, suc, List, None, length, IfErr, IfOk, IfSome, IfNone, IsTrue, IsFalse, ◌↔◌, OnOk, ◌+◌, ◌-◌, ◌*◌, ◌/◌, ◌%◌, Bool, true, false, nat_eq, nat_lt, [], ◌∷◌, ◌++◌, slice_index_or, slice_set, bit_and, bit_or, Fits, w8, w32, w64, Bor, MutBor}
-use Rattle.voy_disk.specs.Faults.{HasCause}
-use Rattle.voy_disk.specs.Files.{Files, IfTold}
-use Rattle.voy_files.specs.declared.limits.TheConstants.{PIECE_BYTES}
-use Rattle.voy_queue.specs.Reader.{HasEvent, ahead_of, files_content, left}
-use Rattle.voy_queue.specs.Reading.{behind_event, nothing_left, reading_from, vsn_in_front}
-use Rattle.voy_queue.specs.Segment.{Tells}
-use Rattle.voy_schema.specs.declared.table.Table.{Table}
+use Rattle.std.proofs.Common.{◌≡◌, ◌∙◌, ap, sym, rules}
 use Rattle.voy_queue.proofs.reader.Reader.end_segment.Goals as goal
 
--- src/reading.rt:116:13
 pub end-requires : goal.end-requires
-end-requires g c = ?
-
--- src/reading.rt:116:13
-pub returns-in_err-end-clause-damaged : goal.returns-in_err-end-clause-damaged
-returns-in_err-end-clause-damaged g c = ?
-
--- src/reading.rt:104:5
-pub returns-in_ok-end-clause-left : goal.returns-in_ok-end-clause-left
-returns-in_ok-end-clause-left g c = ?
+end-requires g c = record { stands = c.args.self.now.stands c.in-Some.segment (sym c.take.ensures.value ∙ c.in-Some.is) }

@@ -1,21 +1,28 @@
-use Rattle.std.proofs.Common.{rules, ◌≡◌, ◌≤◌, ◌<◌, ℕ, suc, List, None, length, IfErr, IfOk, IfSome, IfNone, IsTrue, IsFalse, ◌↔◌, OnOk, ◌+◌, ◌-◌, ◌*◌, ◌/◌, ◌%◌, Bool, true, false, nat_eq, nat_lt, [], ◌∷◌, ◌++◌, slice_index_or, slice_set, bit_and, bit_or, Fits, w8, w32, w64, Bor, MutBor}
-use Rattle.voy_disk.specs.Faults.{HasCause}
-use Rattle.voy_disk.specs.Files.{Files, IfTold}
-use Rattle.voy_files.specs.declared.limits.TheConstants.{PIECE_BYTES}
-use Rattle.voy_queue.specs.Reader.{HasEvent, ahead_of, files_content, left}
-use Rattle.voy_queue.specs.Reading.{behind_event, nothing_left, reading_from, vsn_in_front}
+use Rattle.std.proofs.Common.{◌≡◌, ◌∙◌, ◌+◌, ap, subst, sym, suc, rules}
+use Rattle.std.proofs.lemmas.Result.{err_from_is_err_and}
+use Rattle.voy_queue.proofs.ReaderLemmas.{one_left, same_segment}
+use Rattle.voy_queue.specs.Reader.{left, left_behind}
+use Rattle.voy_queue.specs.Reading.{QueueReading}
 use Rattle.voy_queue.specs.Segment.{Tells}
-use Rattle.voy_schema.specs.declared.table.Table.{Table}
 use Rattle.voy_queue.proofs.reader.Reader.take_event.Goals as goal
 
--- src/reading.rt:155:21
 pub take_event-requires-clause-stands : goal.take_event-requires-clause-stands
-take_event-requires-clause-stands g c = ?
+take_event-requires-clause-stands g c = c.args.self.now.stands c.in-Some.segment (sym c.take.ensures.value ∙ c.in-Some.is)
 
--- src/reading.rt:155:21
 pub returns-in_err-event-clause-damaged : goal.returns-in_err-event-clause-damaged
-returns-in_err-event-clause-damaged g c = ?
+returns-in_err-event-clause-damaged g c =
+    let old = c.args.self.now in
+    let schema = c.args.schema.now.tables in
+    let current = sym c.take.ensures.value ∙ c.in-Some.is in
+    let failed = err_from_is_err_and c.from_residual.result c.from_residual.ensures.1 in
+    rw (failed.1, failed.2) (λ fs told. subst (λ (reading : QueueReading). Tells c.in_err-event.field-0.0 reading) (sym (one_left schema old fs c.in-Some.segment current c.requires))
+    (c.in_err-event.ensures.damaged fs told (left_behind schema old fs c.in-Some.segment.state.last_vsn)))
 
--- src/reading.rt:142:5
 pub returns-clause-some : goal.returns-clause-some
-returns-clause-some g c = ?
+returns-clause-some g c fs told =
+    let old = c.args.self.now in
+    let schema = c.args.schema.now.tables in
+    let current = sym c.take.ensures.value ∙ c.in-Some.is in
+    one_left schema old fs c.in-Some.segment current c.requires
+    ∙ c.in_ok-event.ensures.some fs told (left_behind schema old fs c.in-Some.segment.state.last_vsn)
+    ∙ same_segment schema old fs c.in_ok-event.event c.take_event.new.self c.in-Some.segment.state c.take_event.new.self.state c.in_ok-event.ensures.state
