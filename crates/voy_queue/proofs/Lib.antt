@@ -10,6 +10,7 @@ mod PendingLemmas
 mod ReaderLemmas
 mod ReadyLemmas
 mod SegmentLemmas
+mod ShelfReadLemmas
 mod StepLemmas
 mod WholeLemmas
 mod WrittenLemmas

@@ -1,4 +1,4 @@
-ghost use Rattle.voy_queue.specs.Laws.{FirstPartIsPut, WrittenReadsBack};
+ghost use Rattle.voy_queue.specs.Laws.{FirstPartIsPut, ShelvesAreRead, WrittenReadsBack};
 ghost use Rattle.voy_queue.specs.PuttingLaws.{AreBehindLaw, EndsWithPut};
 
 use voy_event::{events_read_back, lines_stand_in_segments};
@@ -24,3 +24,8 @@ pub fn written_reads_back()
     records_join();
     segments_stand();
 }
+
+/// Law: the queue of a shelf is that of the image that it is taken from. There is nothing to run.
+pub fn shelves_are_read()
+    ensures { ShelvesAreRead }
+{}

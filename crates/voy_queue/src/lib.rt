@@ -22,7 +22,7 @@ mod writer;
 
 pub use end::{Added, End, Pending};
 pub use error::QueueError;
-pub use laws::{puts_are_behind, written_reads_back};
+pub use laws::{puts_are_behind, shelves_are_read, written_reads_back};
 pub use limits::MAX_SEGMENT_BYTES;
 pub use reader::Reader;
 pub use writer::Writer;
