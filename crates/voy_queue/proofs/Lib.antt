@@ -1,3 +1,5 @@
 mod NameLemmas
 mod PendingLemmas
 mod AskingLemmas
+mod SegmentLemmas
+mod RecordLemmas

@@ -6,6 +6,7 @@
 #![tactic(auto)]
 
 mod asking;
+mod commit;
 mod cutover;
 mod end;
 mod error;
@@ -14,6 +15,7 @@ mod limits;
 mod names;
 mod put;
 mod reader;
+mod segment;
 mod writer;
 
 pub use end::{Added, End, Pending};

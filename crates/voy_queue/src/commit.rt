@@ -1,0 +1,96 @@
+ghost use Rattle.std.specs.Prelude.{◌≡◌, ◌≢◌, [], ◌∷◌, is_some, IfErr, IsTrue, OnOk, true};
+ghost use Rattle.voy_disk.specs.Calls.{Change};
+ghost use Rattle.voy_disk.specs.Faults.{HasCause};
+ghost use Rattle.voy_disk.specs.Files.{IfTold};
+ghost use Rattle.voy_disk.specs.Frames.{KeepsBeside, KeepsOtherFiles, OneOf};
+ghost use Rattle.voy_disk.specs.Images.{ImagesOf};
+ghost use Rattle.voy_disk.specs.Steps.{Does, DoesAll, LeavesPrefix};
+ghost use Rattle.voy_meta.specs.Allowed.{has_snapshot, writes};
+ghost use Rattle.voy_meta.specs.Meta.{AddsRecords, MetaStands, is_live, meta_name, meta_state};
+ghost use Rattle.voy_meta.specs.Sides.{leads_to, request_of};
+ghost use Rattle.voy_meta.specs.State.{after_record};
+ghost use Rattle.voy_queue.specs.Names.{segment_name};
+ghost use Rattle.voy_queue.specs.Putting.{IsBehind, commit_of, entry_of, recorded_end};
+ghost use Rattle.voy_queue.specs.Shelf.{shelf_after, shelf_in};
+ghost use Rattle.voy_queue.specs.Writer.{StandsIn};
+
+use crate::end::Added;
+use crate::error::QueueError;
+use crate::names::segment_file;
+use crate::segment::write_segment;
+use std::alloc::Global;
+use voy_disk::Disk;
+use voy_meta::{Meta, MetaError, MetaRecord};
+use voy_tables::Role;
+
+/// Commits what was put into one segment: its bytes, and when they are safe its record.
+fn commit_one<D: Disk>(
+    alloc: Global,
+    disk: &mut D,
+    meta: &mut Meta,
+    role: Role,
+    one: &Added,
+) -> Result<(), QueueError>
+    requires live { IsTrue (is_live meta.old) }
+    requires stands { MetaStands meta.old (D.files disk.old) }
+    requires snapshot { IsTrue (has_snapshot (meta_state meta.old)) }
+    requires may { IsTrue (writes (meta_state meta.old) role) }
+    requires asked { one.now.end.ended ≡ true → IsTrue (is_some (request_of (leads_to role) (meta_state meta.old))) }
+    requires behind { IsBehind (recorded_end (meta_state meta.old) role) one.now }
+    requires file { IfTold (D.files disk.old) (StandsIn (recorded_end (meta_state meta.old) role)) }
+    ensures state { OnOk result (meta_state meta.new ≡ after_record (meta_state meta.old) (entry_of role one.now)) }
+    ensures stands { OnOk result (MetaStands meta.new (D.files disk.new)) }
+    ensures live { OnOk result (IsTrue (is_live meta.new)) }
+    ensures file { OnOk result (IfTold (D.files disk.new) (StandsIn one.now.end)) }
+    ensures all { DoesAll (Does shelf_in shelf_after) (commit_of role one.now ∷ []) result (ImagesOf (D.files disk.old)) (ImagesOf (D.files disk.new)) }
+    ensures prefix { LeavesPrefix (Does shelf_in shelf_after) (commit_of role one.now ∷ []) (ImagesOf (D.files disk.old)) (ImagesOf (D.files disk.new)) }
+    ensures others { Change (KeepsBeside (OneOf (meta_name ∷ segment_name one.now.end.number ∷ []))) (D.files disk.old) (D.files disk.new) }
+    ensures lender { D.lender disk.new ≡ D.lender disk.old }
+    ensures cause { HasCause QueueError.Fault (D.faults disk.old) (D.faults disk.new) result }
+    ensures never_damaged { IfErr result (λ error. (segment : _) (offset : _) → error ≢ QueueError.Damaged segment offset) }
+{
+    let name = segment_file(alloc, one.end.number)?;
+    let start = one.end.bytes - one.bytes.len() as u64;
+    write_segment(disk, &name, start, one.bytes.as_slice())?;
+    put_record(disk, meta, role, one)
+}
+
+/// Puts the record of a segment.
+fn put_record<D: Disk>(
+    disk: &mut D,
+    meta: &mut Meta,
+    role: Role,
+    one: &Added,
+) -> Result<(), QueueError>
+    requires live { IsTrue (is_live meta.old) }
+    requires stands { MetaStands meta.old (D.files disk.old) }
+    requires snapshot { IsTrue (has_snapshot (meta_state meta.old)) }
+    requires may { IsTrue (writes (meta_state meta.old) role) }
+    requires asked { one.now.end.ended ≡ true → IsTrue (is_some (request_of (leads_to role) (meta_state meta.old))) }
+    requires behind { IsBehind (recorded_end (meta_state meta.old) role) one.now }
+    ensures state { OnOk result (meta_state meta.new ≡ after_record (meta_state meta.old) (entry_of role one.now)) }
+    ensures stands { OnOk result (MetaStands meta.new (D.files disk.new)) }
+    ensures live { OnOk result (IsTrue (is_live meta.new)) }
+    ensures all { DoesAll AddsRecords (entry_of role one.now ∷ []) result (ImagesOf (D.files disk.old)) (ImagesOf (D.files disk.new)) }
+    ensures prefix { LeavesPrefix AddsRecords (entry_of role one.now ∷ []) (ImagesOf (D.files disk.old)) (ImagesOf (D.files disk.new)) }
+    ensures others { Change (KeepsOtherFiles meta_name) (D.files disk.old) (D.files disk.new) }
+    ensures lender { D.lender disk.new ≡ D.lender disk.old }
+    ensures cause { HasCause QueueError.Fault (D.faults disk.old) (D.faults disk.new) result }
+    ensures never_damaged { IfErr result (λ error. (segment : _) (offset : _) → error ≢ QueueError.Damaged segment offset) }
+{
+    let entry = MetaRecord::Queue {
+        segment: one.end.number,
+        bytes: one.end.bytes,
+        last_vsn: one.end.last_vsn,
+        role,
+        spot: one.end.spot,
+        closed: one.end.closed,
+        ended: one.end.ended,
+    };
+    match meta.put(disk, entry) {
+        Ok(()) => Ok(()),
+        Err(MetaError::Fault) => Err(QueueError::Fault),
+        Err(MetaError::NoMemory) => Err(QueueError::NoMemory),
+        Err(MetaError::Damaged { .. }) => unreachable!(),
+    }
+}
