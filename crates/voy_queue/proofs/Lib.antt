@@ -3,3 +3,5 @@ mod PendingLemmas
 mod AskingLemmas
 mod SegmentLemmas
 mod RecordLemmas
+mod ShelfLemmas
+mod CommitLemmas

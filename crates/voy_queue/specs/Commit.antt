@@ -1,7 +1,12 @@
 -- What a commit leaves of the file of a segment.
-use Rattle.std.specs.Prelude.{◌≡◌, ◌≢◌, ℕ, List, ◌++◌, Some, length}
+use Rattle.std.specs.Prelude.{◌≡◌, ◌≢◌, ◌-◌, ℕ, List, ◌++◌, Some, length}
 use Rattle.voy_disk.specs.File.{File, settled}
 use Rattle.voy_disk.specs.Files.{Files}
+use Rattle.voy_queue.specs.declared.end.Added.{Added}
+
+-- where the bytes that were put into a segment begin in its file
+abbrev pub start_of : Added → ℕ
+start_of one = one.end.bytes - length one.bytes
 
 -- the file is safe as it reads, with so many bytes; nothing is asked of it where these are none
 pub record IsSafeTo (name : List ℕ) (start : ℕ) (files : Files) : Type 0 where

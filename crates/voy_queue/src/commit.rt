@@ -1,14 +1,17 @@
-ghost use Rattle.std.specs.Prelude.{◌≡◌, ◌≢◌, [], ◌∷◌, is_some, IfErr, IsTrue, OnOk, true};
+ghost use Rattle.std.specs.Prelude.{◌≡◌, ◌≢◌, ◌≤◌, [], ◌∷◌, is_some, length, IfErr, IsTrue, OnOk, true};
 ghost use Rattle.voy_disk.specs.Calls.{Change};
 ghost use Rattle.voy_disk.specs.Faults.{HasCause};
 ghost use Rattle.voy_disk.specs.Files.{IfTold};
 ghost use Rattle.voy_disk.specs.Frames.{KeepsBeside, KeepsOtherFiles, OneOf};
+ghost use Rattle.voy_disk.specs.Fronts.{KeepsFront};
 ghost use Rattle.voy_disk.specs.Images.{ImagesOf};
-ghost use Rattle.voy_disk.specs.Steps.{Does, DoesAll, LeavesPrefix};
+ghost use Rattle.voy_disk.specs.Steps.{Does, DoesAll, Follows, LeavesPrefix};
 ghost use Rattle.voy_meta.specs.Allowed.{has_snapshot, writes};
 ghost use Rattle.voy_meta.specs.Meta.{AddsRecords, MetaStands, is_live, meta_name, meta_state};
 ghost use Rattle.voy_meta.specs.Sides.{leads_to, request_of};
 ghost use Rattle.voy_meta.specs.State.{after_record};
+ghost use Rattle.voy_meta.specs.declared.limits.TheConstants.{MAX_SEGMENT_BYTES};
+ghost use Rattle.voy_queue.specs.Commit.{IsSafeBehind, IsSafeTo, start_of};
 ghost use Rattle.voy_queue.specs.Names.{segment_name};
 ghost use Rattle.voy_queue.specs.Putting.{IsBehind, commit_of, entry_of, recorded_end};
 ghost use Rattle.voy_queue.specs.Shelf.{shelf_after, shelf_in};
@@ -49,10 +52,27 @@ fn commit_one<D: Disk>(
     ensures cause { HasCause QueueError.Fault (D.faults disk.old) (D.faults disk.new) result }
     ensures never_damaged { IfErr result (λ error. (segment : _) (offset : _) → error ≢ QueueError.Damaged segment offset) }
 {
+    add_bytes(alloc, disk, one)?;
+    put_record(disk, meta, role, one)
+}
+
+/// Writes what was put into a segment, and makes it safe.
+#[tactic(auto, using(voy_disk::specs::ChangeLaws::others_still))]
+fn add_bytes<D: Disk>(alloc: Global, disk: &mut D, one: &Added) -> Result<(), QueueError>
+    requires small { one.now.end.bytes ≤ MAX_SEGMENT_BYTES }
+    requires more { length one.now.bytes ≤ one.now.end.bytes }
+    requires stands { IfTold (D.files disk.old) (IsSafeTo (segment_name one.now.end.number) (start_of one.now)) }
+    ensures written { OnOk result (IfTold (D.files disk.new) (IsSafeBehind (segment_name one.now.end.number) (start_of one.now) one.now.bytes)) }
+    ensures keeps { Follows (KeepsFront (segment_name one.now.end.number) (start_of one.now)) (ImagesOf (D.files disk.old)) (ImagesOf (D.files disk.new)) }
+    ensures others { Change (KeepsOtherFiles (segment_name one.now.end.number)) (D.files disk.old) (D.files disk.new) }
+    ensures lender { D.lender disk.new ≡ D.lender disk.old }
+    ensures cause { HasCause QueueError.Fault (D.faults disk.old) (D.faults disk.new) result }
+    ensures never_damaged { IfErr result (λ error. (segment : _) (offset : _) → error ≢ QueueError.Damaged segment offset) }
+{
     let name = segment_file(alloc, one.end.number)?;
     let start = one.end.bytes - one.bytes.len() as u64;
     write_segment(disk, &name, start, one.bytes.as_slice())?;
-    put_record(disk, meta, role, one)
+    Ok(())
 }
 
 /// Puts the record of a segment.
