@@ -5,3 +5,4 @@ mod SegmentLemmas
 mod RecordLemmas
 mod ShelfLemmas
 mod CommitLemmas
+mod CommitLoop

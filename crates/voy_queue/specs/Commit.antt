@@ -1,7 +1,9 @@
 -- What a commit leaves of the file of a segment.
-use Rattle.std.specs.Prelude.{◌≡◌, ◌≢◌, ◌-◌, ℕ, List, ◌++◌, Some, length}
+use Rattle.std.specs.Prelude.{◌≡◌, ◌≢◌, ◌-◌, ℕ, List, ◌∷◌, ◌++◌, Some, length, map}
 use Rattle.voy_disk.specs.File.{File, settled}
 use Rattle.voy_disk.specs.Files.{Files}
+use Rattle.voy_meta.specs.Meta.{meta_name}
+use Rattle.voy_queue.specs.Names.{segment_name}
 use Rattle.voy_queue.specs.declared.end.Added.{Added}
 
 -- where the bytes that were put into a segment begin in its file
@@ -27,3 +29,7 @@ pub record IsSafeBehind (name : List ℕ) (start : ℕ) (bytes : List ℕ) (file
   pub front : List ℕ
   pub size : length front ≡ start
   pub is : files name ≡ Some (settled (front ++ bytes))
+
+-- the files that a commit of these writes
+abbrev pub names_of : List Added → List (List ℕ)
+names_of pending = meta_name ∷ map (λ (one : Added). segment_name one.end.number) pending

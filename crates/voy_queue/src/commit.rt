@@ -1,4 +1,4 @@
-ghost use Rattle.std.specs.Prelude.{◌≡◌, ◌≢◌, ◌≤◌, [], ◌∷◌, is_some, length, IfErr, IsTrue, OnOk, true};
+ghost use Rattle.std.specs.Prelude.{◌≡◌, ◌≢◌, ◌≤◌, [], ◌∷◌, is_some, length, map, IfErr, IsTrue, OnOk, true};
 ghost use Rattle.voy_disk.specs.Calls.{Change};
 ghost use Rattle.voy_disk.specs.Faults.{HasCause};
 ghost use Rattle.voy_disk.specs.Files.{IfTold};
@@ -9,11 +9,11 @@ ghost use Rattle.voy_disk.specs.Steps.{Does, DoesAll, Follows, LeavesPrefix};
 ghost use Rattle.voy_meta.specs.Allowed.{has_snapshot, writes};
 ghost use Rattle.voy_meta.specs.Meta.{AddsRecords, MetaStands, is_live, meta_name, meta_state};
 ghost use Rattle.voy_meta.specs.Sides.{leads_to, request_of};
-ghost use Rattle.voy_meta.specs.State.{after_record};
+ghost use Rattle.voy_meta.specs.State.{after_record, state_after};
 ghost use Rattle.voy_meta.specs.declared.limits.TheConstants.{MAX_SEGMENT_BYTES};
-ghost use Rattle.voy_queue.specs.Commit.{IsSafeBehind, IsSafeTo, start_of};
+ghost use Rattle.voy_queue.specs.Commit.{IsSafeBehind, IsSafeTo, names_of, start_of};
 ghost use Rattle.voy_queue.specs.Names.{segment_name};
-ghost use Rattle.voy_queue.specs.Putting.{IsBehind, commit_of, entry_of, recorded_end};
+ghost use Rattle.voy_queue.specs.Putting.{AreBehind, IsBehind, commit_of, end_of, entry_of, recorded_end};
 ghost use Rattle.voy_queue.specs.Shelf.{shelf_after, shelf_in};
 ghost use Rattle.voy_queue.specs.Writer.{StandsIn};
 
@@ -25,6 +25,39 @@ use std::alloc::Global;
 use voy_disk::Disk;
 use voy_meta::{Meta, MetaError, MetaRecord};
 use voy_tables::Role;
+
+/// Commits segments in order. Each is safe before the next one begins.
+pub(crate) fn commit_all<D: Disk>(
+    alloc: Global,
+    disk: &mut D,
+    meta: &mut Meta,
+    role: Role,
+    pending: &[Added],
+) -> Result<(), QueueError>
+    requires live { IsTrue (is_live meta.old) }
+    requires stands { MetaStands meta.old (D.files disk.old) }
+    requires snapshot { IsTrue (has_snapshot (meta_state meta.old)) }
+    requires may { IsTrue (writes (meta_state meta.old) role) }
+    requires asked { (end_of (recorded_end (meta_state meta.old) role) pending.now).ended ≡ true → IsTrue (is_some (request_of (leads_to role) (meta_state meta.old))) }
+    requires behind { AreBehind (recorded_end (meta_state meta.old) role) pending.now }
+    requires file { IfTold (D.files disk.old) (StandsIn (recorded_end (meta_state meta.old) role)) }
+    ensures state { OnOk result (meta_state meta.new ≡ state_after (meta_state meta.old) (map (entry_of role) pending.now)) }
+    ensures end { OnOk result (recorded_end (meta_state meta.new) role ≡ end_of (recorded_end (meta_state meta.old) role) pending.now) }
+    ensures stands { OnOk result (MetaStands meta.new (D.files disk.new)) }
+    ensures live { OnOk result (IsTrue (is_live meta.new)) }
+    ensures file { OnOk result (IfTold (D.files disk.new) (StandsIn (recorded_end (meta_state meta.new) role))) }
+    ensures all { DoesAll (Does shelf_in shelf_after) (map (commit_of role) pending.now) result (ImagesOf (D.files disk.old)) (ImagesOf (D.files disk.new)) }
+    ensures prefix { LeavesPrefix (Does shelf_in shelf_after) (map (commit_of role) pending.now) (ImagesOf (D.files disk.old)) (ImagesOf (D.files disk.new)) }
+    ensures others { Change (KeepsBeside (OneOf (names_of pending.now))) (D.files disk.old) (D.files disk.new) }
+    ensures lender { D.lender disk.new ≡ D.lender disk.old }
+    ensures cause { HasCause QueueError.Fault (D.faults disk.old) (D.faults disk.new) result }
+    ensures never_damaged { IfErr result (λ error. (segment : _) (offset : _) → error ≢ QueueError.Damaged segment offset) }
+{
+    for one in pending {
+        commit_one(alloc, disk, meta, role, one)?;
+    }
+    Ok(())
+}
 
 /// Commits what was put into one segment: its bytes, and when they are safe its record.
 fn commit_one<D: Disk>(
