@@ -1,7 +1,7 @@
 mod NameLemmas
 mod PendingLemmas
 mod AskingLemmas
-mod SegmentLemmas
+mod GrowingLemmas
 mod RecordLemmas
 mod ShelfLemmas
 mod CommitLemmas

@@ -20,7 +20,7 @@ ghost use Rattle.voy_queue.specs.Writer.{StandsIn};
 use crate::end::Added;
 use crate::error::QueueError;
 use crate::names::segment_file;
-use crate::segment::write_segment;
+use crate::growing::write_segment;
 use std::alloc::Global;
 use voy_disk::Disk;
 use voy_meta::{Meta, MetaError, MetaRecord};

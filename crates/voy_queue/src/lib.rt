@@ -15,7 +15,7 @@ mod limits;
 mod names;
 mod put;
 mod reader;
-mod segment;
+mod growing;
 mod writer;
 
 pub use end::{Added, End, Pending};

@@ -3,8 +3,8 @@ use Rattle.std.proofs.Math.Seq.{take-length}
 use Rattle.voy_disk.specs.ChangeLaws.{others_on, others_still}
 use Rattle.voy_disk.specs.Files.{IfTold}
 use Rattle.voy_queue.specs.Commit.{ReadsBehind}
-use Rattle.voy_queue.proofs.SegmentLemmas.{front_kept, pieces_on, take_all}
-use Rattle.voy_queue.proofs.segment.write_pieces.Goals as goal
+use Rattle.voy_queue.proofs.GrowingLemmas.{front_kept, pieces_on, take_all}
+use Rattle.voy_queue.proofs.growing.write_pieces.Goals as goal
 
 pub pieces-init : goal.pieces-init
 pieces-init g c = record {

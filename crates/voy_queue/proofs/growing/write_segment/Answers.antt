@@ -1,8 +1,8 @@
 use Rattle.voy_disk.specs.ChangeLaws.{others_after, others_on}
 use Rattle.voy_disk.specs.CallLaws.{sync_follows}
 use Rattle.voy_disk.specs.StepLaws.{then_same}
-use Rattle.voy_queue.proofs.SegmentLemmas.{pieces_keep, reads_there, synced_behind}
-use Rattle.voy_queue.proofs.segment.write_segment.Goals as goal
+use Rattle.voy_queue.proofs.GrowingLemmas.{pieces_keep, reads_there, synced_behind}
+use Rattle.voy_queue.proofs.growing.write_segment.Goals as goal
 
 pub returns-in_err-write_pieces-clause-keeps : goal.returns-in_err-write_pieces-clause-keeps
 returns-in_err-write_pieces-clause-keeps g c =

@@ -6,7 +6,7 @@ use Rattle.voy_disk.specs.Fronts.{HasFront, KeepsFront}
 use Rattle.voy_disk.specs.Images.{ImagesOf}
 use Rattle.voy_disk.specs.Steps.{Follows}
 use Rattle.voy_queue.specs.Commit.{ReadsBehind}
-use Rattle.voy_queue.proofs.segment.write_pieces.Given as goal
+use Rattle.voy_queue.proofs.growing.write_pieces.Given as goal
 
 abbrev pub invariant-pieces : goal.invariant-pieces
 invariant-pieces g l = record {
