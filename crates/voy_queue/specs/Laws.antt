@@ -9,7 +9,7 @@ use Rattle.voy_meta.specs.State.{state_of}
 use Rattle.voy_meta.specs.declared.record.MetaRecord.{MetaRecord}
 use Rattle.voy_queue.specs.Names.{segment_name}
 use Rattle.voy_queue.specs.Putting.{MayFollowInTurn, Put, commit_of, pending_with, recorded_end}
-use Rattle.voy_queue.specs.Reading.{QueueReading, queue_reading, reads_whole}
+use Rattle.voy_queue.specs.Reading.{queue_reading, reads_whole}
 use Rattle.voy_queue.specs.declared.end.End.{End}
 use Rattle.voy_queue.specs.Shelf.{Shelf, shelf_after, shelf_in, shelf_reading}
 use Rattle.voy_schema.specs.Lawful.{is_lawful}
@@ -34,12 +34,20 @@ pub record ReadsOn (schema : List Table) (role : Role) (max_bytes : ℕ) (puts :
       ≡ reads_whole (events ++ take some (events_of puts))
   pub all : length (pending_with schema max_bytes end [] puts) ≤ count → take some (events_of puts) ≡ events_of puts
 
--- a queue that reads whole, and what a writer made of events that were put behind it, read as the old events and those that were put: all of
--- them, and where only some first segments were committed, some first ones
+-- the queue of an image that reads whole, and what a writer made of events that were put behind it, read as the old events and those that were
+-- put: all of them, and where only some first segments were committed, some first ones
 abbrev pub WrittenReadsBack : Type 0
 WrittenReadsBack =
-    (schema : List Table) (role : Role) (max_bytes : ℕ) (puts : List Put) (shelf : Shelf) (entries : List MetaRecord) (events : List Event)
-    → is_lawful schema ≡ true → shelf.records ≡ Some entries → are_allowed entries ≡ true → writes (state_of entries) role ≡ true
-    → shelf_reading schema shelf ≡ reads_whole events
+    (schema : List Table) (role : Role) (max_bytes : ℕ) (puts : List Put) (image : Image) (entries : List MetaRecord) (events : List Event)
+    → is_lawful schema ≡ true → records_in image ≡ Some entries → are_allowed entries ≡ true → writes (state_of entries) role ≡ true
+    → shelf_reading schema (shelf_in image) ≡ reads_whole events
     → MayFollowInTurn schema role max_bytes (recorded_end (state_of entries) role) puts
-    → (count : ℕ) → ReadsOn schema role max_bytes puts shelf (recorded_end (state_of entries) role) events count
+    → (count : ℕ) → ReadsOn schema role max_bytes puts (shelf_in image) (recorded_end (state_of entries) role) events count
+
+-- the first segments of what was put are what some first puts made
+pub record ArePut (schema : List Table) (max_bytes : ℕ) (end : End) (puts : List Put) (count : ℕ) : Type 0 where
+  pub some : ℕ
+  pub same : take count (pending_with schema max_bytes end [] puts) ≡ pending_with schema max_bytes end [] (take some puts)
+
+abbrev pub FirstPartIsPut : Type 0
+FirstPartIsPut = (schema : List Table) (max_bytes : ℕ) (end : End) (puts : List Put) (count : ℕ) → ArePut schema max_bytes end puts count

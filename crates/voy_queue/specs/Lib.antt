@@ -3,6 +3,7 @@ pub mod Lines
 pub mod Reading
 pub mod Shelf
 pub mod Putting
+pub mod Segment
 pub mod Reader
 pub mod Writer
 pub mod Laws

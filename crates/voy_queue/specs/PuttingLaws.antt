@@ -69,7 +69,7 @@ room_within end few = by end.closed refl where
   by false is = few is
 
 -- the room of an open end is its own segment
-room_open : (end : End) → end.closed ≡ false → room_for end ≡ end
+pub room_open : (end : End) → end.closed ≡ false → room_for end ≡ end
 room_open end is = rw is refl
 
 same_spot : (spot : Option Spot) → spot_follows spot spot ≡ true
@@ -82,7 +82,7 @@ newer_follows schema role end event None may = same_spot end.spot
 newer_follows schema role end event (Some spot) may = may.place (sym may.placed)
 
 -- a cutover closes its segment
-ends_shut : (max_bytes bytes : ℕ) (event : Event) → ends_part event ≡ true → closes max_bytes bytes event ≡ true
+pub ends_shut : (max_bytes bytes : ℕ) (event : Event) → ends_part event ≡ true → closes max_bytes bytes event ≡ true
 ends_shut max_bytes bytes event ends = or_right (nat_le max_bytes bytes) _ ends
 
 begun_behind : (schema : List Table) (role : Role) (max_bytes : ℕ) (end : End) (event : Event) (spot : Option Spot)

@@ -1,13 +1,12 @@
 -- What a reader has left.
-use Rattle.std.specs.Prelude.{◌≡◌, ◌<◌, ℕ, ◌-◌, List, Option, Some, None, drop}
+use Rattle.std.specs.Prelude.{ℕ, ◌-◌, Bool, false, nat_lt, List, [], Option, Some, None, drop}
 use Rattle.voy_disk.specs.Files.{Files, bytes_now}
-use Rattle.voy_files.specs.Reader.{unread}
+use Rattle.voy_files.specs.Reader.{held}
 use Rattle.voy_queue.specs.Names.{segment_name}
-use Rattle.voy_queue.specs.Reading.{QueueReading, damaged_at, events_reading, segments_reading}
-use Rattle.voy_queue.specs.declared.error.QueueError.{QueueError}
-use Rattle.voy_queue.specs.declared.error.QueueError.TheVariants.{Damaged, Fault, NoMemory}
-use Rattle.voy_queue.specs.declared.reader.OpenSegment.{OpenSegment}
+use Rattle.voy_queue.specs.Reading.{QueueReading, segments_reading}
+use Rattle.voy_queue.specs.Segment.{events_left}
 use Rattle.voy_queue.specs.declared.reader.Reader.{Reader}
+use Rattle.voy_queue.specs.declared.segment.OpenSegment.{OpenSegment}
 use Rattle.voy_schema.specs.declared.table.Table.{Table}
 
 -- the bytes of the file of each segment, as they read now
@@ -21,19 +20,24 @@ left_behind schema reader files vsn = segments_reading schema (files_content fil
 abbrev pub left_in : List Table → Reader → Files → Option OpenSegment → QueueReading
 left_in schema reader files None = left_behind schema reader files reader.vsn
 left_in schema reader files (Some segment) =
-    events_reading schema segment.number segment.state (segment.state.last_vsn - reader.vsn) segment.offset (unread segment.lines files)
-    (left_behind schema reader files segment.state.last_vsn)
+    events_left schema segment files (segment.state.last_vsn - reader.vsn) (left_behind schema reader files segment.state.last_vsn)
 
 -- the events that the reader has not given, up to the first damage
 abbrev pub left : List Table → Reader → Files → QueueReading
-left schema reader files = left_in schema reader files reader.open
+left schema reader files = left_in schema reader files reader.current
 
 -- the segment that is read has an event left
-abbrev pub HasEvent : Reader → Type 0
-HasEvent reader = (segment : OpenSegment) × (reader.open ≡ Some segment) × (reader.vsn < segment.state.last_vsn)
+abbrev pub has_event_in : (vsn : ℕ) → Option OpenSegment → Bool
+has_event_in vsn None = false
+has_event_in vsn (Some segment) = nat_lt vsn segment.state.last_vsn
 
--- an error names the first damage, where nothing is left in front of it; any other error says nothing of what is left
-abbrev pub Tells : QueueError → QueueReading → Type 0
-Tells (Damaged segment offset) reading = reading ≡ damaged_at segment offset
-Tells Fault reading = Unit {0}
-Tells NoMemory reading = Unit {0}
+abbrev pub has_event : Reader → Bool
+has_event reader = has_event_in reader.vsn reader.current
+
+-- what was read from the disk and not given yet
+abbrev pub ahead_in : Option OpenSegment → List ℕ
+ahead_in None = []
+ahead_in (Some segment) = held segment.lines
+
+abbrev pub ahead_of : Reader → List ℕ
+ahead_of reader = ahead_in reader.current

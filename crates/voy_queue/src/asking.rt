@@ -3,7 +3,6 @@ ghost use Rattle.voy_event.specs.EventLine.{max_event_line_bytes};
 ghost use Rattle.voy_event.specs.LawfulEvent.{IsLawful};
 ghost use Rattle.voy_event.specs.LineText.{line_text};
 ghost use Rattle.voy_meta.specs.Allowed.{spot_follows};
-ghost use Rattle.voy_meta.specs.Sides.{is_role};
 ghost use Rattle.voy_queue.specs.Putting.{end_of};
 ghost use Rattle.voy_queue.specs.Asking.{has_place, has_room, is_next, takes};
 ghost use Rattle.voy_queue.specs.Writer.{MayPut, committed_end, is_live, writer_end, writer_role};
@@ -11,6 +10,7 @@ ghost use Rattle.voy_schema.specs.declared.table.Table.{Table};
 
 use crate::cutover::is_cutover;
 use crate::end::{Added, End};
+use crate::roles::is_same;
 use crate::writer::Writer;
 use voy_event::Event;
 use voy_meta::{MAX_SEGMENT, MAX_VSN};
@@ -74,16 +74,6 @@ fn is_next(role: Role, end: End, event: &Event) -> bool
         && event.vsn <= MAX_VSN
         && is_same(event.role, role)
         && !end.ended
-}
-
-fn is_same(a: Role, b: Role) -> bool
-    ensures { result ≡ is_role a b }
-{
-    match (a, b) {
-        (Role::Source, Role::Source) => true,
-        (Role::Target, Role::Target) => true,
-        _ => false,
-    }
 }
 
 /// Whether a segment is left for it.

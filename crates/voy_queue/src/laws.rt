@@ -1,7 +1,31 @@
+ghost use Rattle.voy_queue.specs.Laws.{FirstPartIsPut, ShelvesAreRead, WrittenReadsBack};
 ghost use Rattle.voy_queue.specs.PuttingLaws.{AreBehindLaw, EndsWithPut};
 
-/// Law: what may be put behind the end of what is pending is pending behind it, and ends as the event says. There is nothing to run.
+use voy_event::{events_read_back, lines_stand_in_segments};
+use voy_meta::{consistent, records_join, segments_stand};
+
+/// Law: what may be put behind the end of what is pending is pending behind it, and ends as the event says; and the first
+/// segments of what was put are what some first puts made. There is nothing to run.
 pub fn puts_are_behind()
     ensures behind { AreBehindLaw }
     ensures end { EndsWithPut }
+    ensures first { FirstPartIsPut }
+{}
+
+/// Law: a queue reads as its old events and those that were put behind them, or some first ones of these where only some first
+/// segments were committed. There is nothing to run.
+pub fn written_reads_back()
+    ensures { WrittenReadsBack }
+{
+    // The laws of events and of records; there is nothing to run.
+    events_read_back();
+    lines_stand_in_segments();
+    consistent();
+    records_join();
+    segments_stand();
+}
+
+/// Law: the queue of a shelf is that of the image that it is taken from. There is nothing to run.
+pub fn shelves_are_read()
+    ensures { ShelvesAreRead }
 {}

@@ -1,6 +1,11 @@
+ghost use Rattle.std.specs.Prelude.{◌≡◌, ◌≤◌, suc, length, Some};
+ghost use Rattle.voy_meta.specs.declared.limits.TheConstants.{MAX_SEGMENT};
+ghost use Rattle.voy_queue.specs.Segment.{IsAtLine};
+ghost use Rattle.voy_queue.specs.declared.segment.OpenSegment.{OpenSegment};
+
+use crate::segment::OpenSegment;
 use std::alloc::Global;
-use voy_files::LineReader;
-use voy_meta::{SegmentState, Segments};
+use voy_meta::Segments;
 
 /// The committed events of the queue, in order, from the beginning of a segment on.
 ///
@@ -15,16 +20,7 @@ pub struct Reader {
     /// The vsn of the last event that was given; of the last in front of the first.
     pub(crate) vsn: u64,
     /// The segment that is read.
-    pub(crate) open: Option<OpenSegment>,
-}
-
-/// A segment that is read, up to its committed size.
-#[derive(Debug, Drop)]
-pub(crate) struct OpenSegment {
-    pub(crate) number: u32,
-    pub(crate) state: SegmentState,
-    /// Its lines that are left.
-    pub(crate) lines: LineReader,
-    /// Where the next one begins, in bytes from the segment's beginning.
-    pub(crate) offset: u64,
+    pub(crate) current: Option<OpenSegment>,
+    ghost few: { length segments ≤ suc MAX_SEGMENT },
+    ghost stands: { (segment : OpenSegment) → current ≡ Some segment → IsAtLine segment },
 }
