@@ -17,6 +17,7 @@ use Rattle.voy_meta.specs.declared.state.MetaState.{MetaState}
 use Rattle.voy_queue.specs.Commit.{names_of}
 use Rattle.voy_queue.specs.Names.{segment_name}
 use Rattle.voy_queue.specs.Putting.{AreBehind, IsBehind, commit_of, end_of, entry_of, recorded_end}
+use Rattle.voy_queue.specs.PuttingLaws.{IsOpenWithin, one_within}
 use Rattle.voy_queue.specs.Shelf.{Commits, Shelf, shelf_after, shelf_in}
 use Rattle.voy_queue.specs.declared.end.Added.{Added}
 use Rattle.voy_queue.specs.declared.end.End.{End}
@@ -120,3 +121,8 @@ module _ (all : List Added) (i : ℕ) (one : Added) (within : i < length all) (i
 pub may_on : (role : Role) (now new : MetaState) (one : Added) → new ≡ after_record now (entry_of role one) → recorded_end new role ≡ one.end
     → writes now role ≡ true → (recorded_end new role).ended ≡ false → writes new role ≡ true
 may_on role now new one step ends may goes = rw step (writes_on now role one (ap (λ (end : End). end.ended) (sym ends) ∙ goes) may)
+
+-- where what was put ends open, it is small
+pub ends_small : (end : End) (pending : List Added) → IsOpenWithin end → AreBehind end pending → IsOpenWithin (end_of end pending)
+ends_small end [] small behind = small
+ends_small end (one ∷ more) small behind = ends_small one.end more (one_within end one behind.0) behind.1
