@@ -1,6 +1,9 @@
 mod AskingLemmas
+mod CommitLemmas
+mod CommitLoop
 mod FirstLemmas
 mod FoundLemmas
+mod GrowingLemmas
 mod HeldLemmas
 mod LineLemmas
 mod MadeLemmas
@@ -9,7 +12,9 @@ mod OpenLemmas
 mod PendingLemmas
 mod ReaderLemmas
 mod ReadyLemmas
+mod RecordLemmas
 mod SegmentLemmas
+mod ShelfLemmas
 mod ShelfReadLemmas
 mod StepLemmas
 mod WholeLemmas

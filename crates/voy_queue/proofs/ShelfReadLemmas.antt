@@ -51,4 +51,4 @@ pub shelves_are_read : ShelvesAreRead
 shelves_are_read schema image entries is =
     ap (λ (records : Option (List MetaRecord)). reading_of schema records (segments_in image records)) is
     ∙ read_alike schema (segment_at (committed image 0 (state_of entries).segments)) (λ n. bytes_in (image (segment_name n))) 0 0 (state_of entries).segments
-      (agrees_from image (committed image 0 (state_of entries).segments) 0 (state_of entries).segments (λ n. let at : 0 + n ≡ n = omega arith in ap (slice_get (committed image 0 (state_of entries).segments)) at))
+    (agrees_from image (committed image 0 (state_of entries).segments) 0 (state_of entries).segments (λ n. let at : 0 + n ≡ n = omega arith in ap (slice_get (committed image 0 (state_of entries).segments)) at))

@@ -10,4 +10,5 @@ pub mod Laws
 pub mod Behind
 pub mod Asking
 pub mod PuttingLaws
+pub mod Commit
 pub mod Errors

@@ -57,7 +57,7 @@ impl Writer {
 
 /// Where the queue ends with what was put.
 #[tactic(auto, using(crate::proofs::PendingLemmas::last_end))]
-fn end_of(end: End, pending: &[Added]) -> End
+pub(crate) fn end_of(end: End, pending: &[Added]) -> End
     ensures { result ≡ end_of end pending.now }
 {
     match pending.last() {

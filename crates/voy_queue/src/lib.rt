@@ -6,9 +6,11 @@
 #![tactic(auto)]
 
 mod asking;
+mod commit;
 mod cutover;
 mod end;
 mod error;
+mod growing;
 mod laws;
 mod limits;
 mod names;
