@@ -1,5 +1,7 @@
 -- What a reader of lines finds is the first line of what was unread, or there is none.
-use Rattle.std.proofs.Common.{if◌then◌else◌, ◌≡◌, ◌≢◌, ◌≤◌, ◌<◌, ◌+◌, ◌⊎◌, inl, inr, ◌==◌, ℕ, suc, Bool, true, false, not, List, [], ◌∷◌, ◌++◌, Option, Some, None, length, refl, sym, ap, ◌∙◌, arith}
+use Rattle.std.proofs.Common.{eqb-true, drop, take, if◌then◌else◌, ◌≡◌, ◌≢◌, ◌≤◌, ◌<◌, ◌+◌, ◌⊎◌, inl, inr, ◌==◌, ℕ, suc, Bool, true, false, not, List, [], ◌∷◌, ◌++◌, Option, Some, None, length, refl, sym, ap, ◌∙◌, arith}
+use Rattle.std.proofs.lemmas.List.{append_assoc, drop-drop, length-append}
+use Rattle.std.proofs.Math.Seq.{drop-append_seam}
 use Rattle.std.specs.Option.{option_map}
 use Rattle.voy_files.specs.LineLaws.{both_hold, is_false, lines_of-some}
 use Rattle.voy_files.specs.Lines.{is_one_line, lines_of, onto_first}
@@ -109,3 +111,31 @@ pub not_a_line : (found : Found) (limit : ℕ) (line old new : List ℕ) → (fo
     → Finds found limit line old new → HasNoLine old
 not_a_line found limit line old new (inl is) most finds = long_line found limit line old new is most finds
 not_a_line found limit line old new (inr is) most finds = no_line found limit line old new is finds
+
+-- a first line stands in front of its LF and the rest
+pub first_splits : (bytes line rest : List ℕ) → first_line bytes ≡ Some (line, rest) → bytes ≡ line ++ (10 ∷ rest)
+unfolding first_line
+first_splits [] line rest is = cc
+first_splits (b ∷ bytes) line rest is = by_test (b == 10) refl is (first_splits bytes) where
+  mapped : (found : Option (List ℕ × List ℕ)) → first_line bytes ≡ found → ((l r : List ℕ) → first_line bytes ≡ Some (l, r) → bytes ≡ l ++ (10 ∷ r))
+      → option_map {U = List ℕ × List ℕ} (λ (found : List ℕ × List ℕ). (b ∷ found.0, found.1)) found ≡ Some (line, rest) → b ∷ bytes ≡ line ++ (10 ∷ rest)
+  mapped None there more same = cc
+  mapped (Some inner) there more same =
+      let here : (b ∷ inner.0, inner.1) ≡ (line, rest) = cc in
+      ap (λ xs. b ∷ xs) (more inner.0 inner.1 there) ∙ ap (λ (x : List ℕ × List ℕ). x.0 ++ (10 ∷ x.1)) here
+
+  by_test : (t : Bool) → (b == 10) ≡ t
+      → if◌then◌else◌ {A = Option (List ℕ × List ℕ)} t (Some ([], bytes)) (option_map {U = List ℕ × List ℕ} (λ (found : List ℕ × List ℕ). (b ∷ found.0, found.1)) (first_line bytes)) ≡ Some (line, rest)
+      → ((l r : List ℕ) → first_line bytes ≡ Some (l, r) → bytes ≡ l ++ (10 ∷ r)) → b ∷ bytes ≡ line ++ (10 ∷ rest)
+  by_test true feed same more =
+      let here : ([], bytes) ≡ (line, rest) = cc in
+      let is_feed : b ≡ 10 = eqb-true b 10 feed in
+      ap (λ x. x ∷ bytes) is_feed ∙ ap (λ (x : List ℕ × List ℕ). x.0 ++ (10 ∷ x.1)) here
+  by_test false other same more = mapped (first_line bytes) refl more same
+
+-- behind a line the same bytes are left from behind it
+pub left_behind_line : (bytes line rest : List ℕ) (offset : ℕ) → drop offset bytes ≡ line ++ (10 ∷ rest) → drop (offset + (length line + 1)) bytes ≡ rest
+left_behind_line bytes line rest offset is =
+    let one : length (line ++ (10 ∷ [])) ≡ length line + 1 = length-append line (10 ∷ []) in
+    sym (drop-drop (length line + 1) offset bytes) ∙ ap (drop (length line + 1)) is ∙ ap (λ n. drop n (line ++ (10 ∷ rest))) (sym one)
+    ∙ ap (drop (length (line ++ (10 ∷ [])))) (sym (append_assoc line (10 ∷ []) rest)) ∙ drop-append_seam (line ++ (10 ∷ [])) rest

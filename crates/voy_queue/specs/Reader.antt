@@ -1,10 +1,10 @@
 -- What a reader has left.
-use Rattle.std.specs.Prelude.{ℕ, ◌-◌, Bool, false, nat_lt, List, [], Option, Some, None, drop}
+use Rattle.std.specs.Prelude.{◌≡◌, ℕ, ◌-◌, Bool, false, nat_lt, List, [], Option, Some, None, drop}
 use Rattle.voy_disk.specs.Files.{Files, bytes_now}
 use Rattle.voy_files.specs.Reader.{held}
 use Rattle.voy_queue.specs.Names.{segment_name}
 use Rattle.voy_queue.specs.Reading.{QueueReading, segments_reading}
-use Rattle.voy_queue.specs.Segment.{events_left}
+use Rattle.voy_queue.specs.Segment.{IsOver, events_left}
 use Rattle.voy_queue.specs.declared.reader.Reader.{Reader}
 use Rattle.voy_queue.specs.declared.segment.OpenSegment.{OpenSegment}
 use Rattle.voy_schema.specs.declared.table.Table.{Table}
@@ -34,7 +34,11 @@ has_event_in vsn (Some segment) = nat_lt vsn segment.state.last_vsn
 abbrev pub has_event : Reader → Bool
 has_event reader = has_event_in reader.vsn reader.current
 
--- what was read from the disk and not given yet
+-- the reader reads the committed bytes of its segment, from where it stands on, and none behind them
+abbrev pub ReadsCommitted : Reader → Files → Type 0
+ReadsCommitted reader files = (segment : OpenSegment) → reader.current ≡ Some segment → IsOver segment files
+
+-- what was read from the disk and not given yet: the first of the bytes that its segment has left
 abbrev pub ahead_in : Option OpenSegment → List ℕ
 ahead_in None = []
 ahead_in (Some segment) = held segment.lines

@@ -1,9 +1,10 @@
 -- What a segment has left that is read.
-use Rattle.std.specs.Prelude.{◌≡◌, ◌<◌, ◌+◌, ℕ, Bool, List, Some, length}
-use Rattle.voy_disk.specs.Files.{Files}
+use Rattle.std.specs.Prelude.{◌≡◌, ◌<◌, ◌+◌, ℕ, Bool, List, Some, drop, length, take}
+use Rattle.voy_disk.specs.Files.{Files, bytes_now}
 use Rattle.voy_event.specs.EventLine.{max_event_line_bytes}
 use Rattle.voy_files.specs.Reader.{StandsAt, line_limit, unread}
 use Rattle.voy_queue.specs.Lines.{first_line}
+use Rattle.voy_queue.specs.Names.{segment_name}
 use Rattle.voy_queue.specs.Reading.{QueueReading, damaged_at, end_reading, events_reading}
 use Rattle.voy_queue.specs.declared.error.QueueError.{QueueError}
 use Rattle.voy_queue.specs.declared.error.QueueError.TheVariants.{Damaged, Fault, NoMemory}
@@ -23,6 +24,14 @@ events_left schema segment files count behind =
 -- its end, and then what stands behind it
 abbrev pub end_left : OpenSegment → Files → (behind : QueueReading) → QueueReading
 end_left segment files behind = end_reading segment.number segment.state segment.state.closed segment.offset (unread segment.lines files) behind
+
+-- the committed bytes of the segment from its offset on
+abbrev pub committed_left : OpenSegment → Files → List ℕ
+committed_left segment files = drop segment.offset (take segment.state.bytes (bytes_now (files (segment_name segment.number))))
+
+-- what its lines have left is just these
+abbrev pub IsOver : OpenSegment → Files → Type 0
+IsOver segment files = unread segment.lines files ≡ committed_left segment files
 
 -- no line stands there, or one that is longer than any may be
 abbrev pub HasNoLine : List ℕ → Type 0

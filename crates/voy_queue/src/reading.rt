@@ -3,7 +3,7 @@ ghost use Rattle.voy_disk.specs.Faults.{HasCause};
 ghost use Rattle.voy_disk.specs.Files.{Files, IfTold};
 ghost use Rattle.voy_files.specs.declared.limits.TheConstants.{PIECE_BYTES};
 ghost use Rattle.voy_meta.specs.declared.limits.TheConstants.{MAX_SEGMENT};
-ghost use Rattle.voy_queue.specs.Reader.{ahead_of, files_content, has_event, left};
+ghost use Rattle.voy_queue.specs.Reader.{ReadsCommitted, ahead_of, files_content, has_event, left};
 ghost use Rattle.voy_queue.specs.Reading.{behind_event, nothing_left, reading_from, vsn_in_front};
 ghost use Rattle.voy_queue.specs.Segment.{Tells};
 ghost use Rattle.voy_schema.specs.declared.table.Table.{Table};
@@ -23,8 +23,9 @@ impl Reader {
     pub fn open(alloc: Global, state: &MetaState, from: u32) -> Result<Reader, AllocError>
         requires from { from ≤ length state.now.segments }
         requires numbered { length state.now.segments ≤ suc MAX_SEGMENT }
-        ensures { IfOk result (λ reader. (schema : List Table) (files : Files) →
+        ensures left { IfOk result (λ reader. (schema : List Table) (files : Files) →
             left schema reader files ≡ reading_from schema (files_content files) state.now from) }
+        ensures committed { IfOk result (λ reader. (files : Files) → ReadsCommitted reader files) }
     {
         let mut segments = Items::new(alloc);
         segments.append_slice(state.segments.as_slice())?;
@@ -50,6 +51,7 @@ impl Reader {
         ensures none { IfOk result (λ found. IfNone found (IfTold (D.files disk.old) (λ fs. left schema.now.tables self.old fs ≡ nothing_left))) }
         ensures still { IfOk result (λ found. IfNone found (IfTold (D.files disk.old) (λ fs. left schema.now.tables self.new fs ≡ nothing_left))) }
         ensures damaged { IfErr result (λ error. IfTold (D.files disk.old) (λ fs. Tells error (left schema.now.tables self.old fs))) }
+        ensures committed { IfOk result (λ _. IfTold (D.files disk.old) (λ fs. ReadsCommitted self.old fs → ReadsCommitted self.new fs)) }
         ensures same { D.files disk.new ≡ D.files disk.old }
         ensures cause { HasCause QueueError.Fault (D.faults disk.old) (D.faults disk.new) result }
         ensures lender { D.lender disk.new ≡ D.lender disk.old }
@@ -79,6 +81,7 @@ impl Reader {
         ensures none { IfOk result (λ found. IsFalse found → IfTold (D.files disk.old) (λ fs. (schema : List Table) → left schema self.new fs ≡ nothing_left)) }
         ensures left { IfOk result (λ _. IfTold (D.files disk.old) (λ fs. (schema : List Table) → left schema self.new fs ≡ left schema self.old fs)) }
         ensures damaged { IfErr result (λ error. IfTold (D.files disk.old) (λ fs. (schema : List Table) → Tells error (left schema self.old fs))) }
+        ensures committed { IfOk result (λ _. IfTold (D.files disk.old) (λ fs. ReadsCommitted self.old fs → ReadsCommitted self.new fs)) }
         ensures same { D.files disk.new ≡ D.files disk.old }
         ensures cause { HasCause QueueError.Fault (D.faults disk.old) (D.faults disk.new) result }
         ensures lender { D.lender disk.new ≡ D.lender disk.old }
@@ -99,6 +102,7 @@ impl Reader {
         ensures none { IfOk result (λ more. IsFalse more → IfTold (D.files disk.old) (λ fs. (schema : List Table) → left schema self.new fs ≡ nothing_left)) }
         ensures left { IfOk result (λ _. IfTold (D.files disk.old) (λ fs. (schema : List Table) → left schema self.new fs ≡ left schema self.old fs)) }
         ensures damaged { IfErr result (λ error. IfTold (D.files disk.old) (λ fs. (schema : List Table) → Tells error (left schema self.old fs))) }
+        ensures committed { IfOk result (λ _. (files : Files) → ReadsCommitted self.new files) }
         ensures same { D.files disk.new ≡ D.files disk.old }
         ensures cause { HasCause QueueError.Fault (D.faults disk.old) (D.faults disk.new) result }
         ensures lender { D.lender disk.new ≡ D.lender disk.old }
@@ -144,6 +148,7 @@ impl Reader {
         ensures segments { self.new.segments ≡ self.old.segments }
         ensures none { IfOk result (λ begun. IsFalse begun → (schema : List Table) (fs : Files) → left schema self.new fs ≡ nothing_left) }
         ensures left { IfOk result (λ _. (schema : List Table) (fs : Files) → left schema self.new fs ≡ left schema self.old fs) }
+        ensures committed { IfOk result (λ _. (files : Files) → ReadsCommitted self.new files) }
         ensures next { IfErr result (λ _. self.new ≡ self.old) }
     {
         let Some(state) = self.segments.get(self.next as usize) else {
@@ -162,6 +167,7 @@ impl Reader {
         ensures some { IfOk result (λ event. IfTold (D.files disk.old) (λ fs.
             left schema.now.tables self.old fs ≡ behind_event event (left schema.now.tables self.new fs))) }
         ensures damaged { IfErr result (λ error. IfTold (D.files disk.old) (λ fs. Tells error (left schema.now.tables self.old fs))) }
+        ensures committed { IfOk result (λ _. IfTold (D.files disk.old) (λ fs. ReadsCommitted self.old fs → ReadsCommitted self.new fs)) }
         ensures same { D.files disk.new ≡ D.files disk.old }
         ensures cause { HasCause QueueError.Fault (D.faults disk.old) (D.faults disk.new) result }
         ensures lender { D.lender disk.new ≡ D.lender disk.old }

@@ -4,7 +4,7 @@ ghost use Rattle.voy_disk.specs.Files.{Files, IfTold, bytes_now};
 ghost use Rattle.voy_files.specs.Reader.{StandsAt, found_line, line_limit, unread};
 ghost use Rattle.voy_queue.specs.Lines.{first_line};
 ghost use Rattle.voy_queue.specs.Reading.{QueueReading, behind_event, due_event, end_reading, ends_at, is_due};
-ghost use Rattle.voy_queue.specs.Segment.{HasNoLine, IsAtLine, Tells, end_left, events_left};
+ghost use Rattle.voy_queue.specs.Segment.{HasNoLine, IsAtLine, IsOver, Tells, end_left, events_left};
 
 use crate::cutover::is_cutover;
 use crate::error::QueueError;
@@ -50,6 +50,7 @@ impl OpenSegment {
         ensures damaged { IfErr result (λ error. IfTold (D.files disk.old) (λ fs. (behind : QueueReading) →
             Tells error (events_left schema.now.tables self.old fs (suc (self.old.state.last_vsn - vsn)) behind))) }
         ensures stands { IfOk result (λ _. IsAtLine self.new) }
+        ensures over { IfOk result (λ _. IfTold (D.files disk.old) (λ fs. IsOver self.old fs → IsOver self.new fs)) }
         ensures number { self.new.number ≡ self.old.number }
         ensures state { self.new.state ≡ self.old.state }
         ensures same { D.files disk.new ≡ D.files disk.old }

@@ -1,5 +1,8 @@
-use Rattle.std.proofs.Common.{◌≡◌, ◌∙◌, ◌-◌, ◌+◌, length, ap, sym, rules, Some, None}
+use Rattle.std.proofs.Common.{drop, take, ◌≡◌, ◌∙◌, ◌-◌, ◌+◌, length, ap, sym, rules, Some, None}
+use Rattle.voy_disk.specs.Files.{bytes_now}
 use Rattle.voy_files.specs.Reader.{found_line, unread}
+use Rattle.voy_queue.proofs.FoundLemmas.{first_splits, left_behind_line}
+use Rattle.voy_queue.specs.Names.{segment_name}
 use Rattle.voy_queue.proofs.SegmentLemmas.{due_goes_on, due_vsn, no_line_damages, not_due_damages, same_events, tells_damage}
 use Rattle.voy_meta.specs.declared.state.SegmentState.{SegmentState}
 use Rattle.voy_queue.specs.Reading.{due_event}
@@ -32,3 +35,20 @@ returns-clause-some g c fs told behind =
     (c.pass_line.ensures.number ∙ c.in_ok-find_line.ensures.number) (c.pass_line.ensures.state ∙ c.in_ok-find_line.ensures.state)
     (c.pass_line.ensures.offset ∙ ap (λ offset. offset + (length line + 1)) c.in_ok-find_line.ensures.offset)
     (ap (λ lines. unread lines fs) c.pass_line.ensures.lines)
+
+-- what is left is the committed bytes behind the line
+pub returns-clause-over : goal.returns-clause-over
+returns-clause-over g c fs told over =
+    let old = c.args.self.now in
+    let new = c.pass_line.new.self in
+    let line = found_line c.find_line.new.self.lines in
+    let split = first_splits (unread old.lines fs) line (unread c.find_line.new.self.lines fs) (c.in_ok-find_line.ensures.found c.if-not-branch.false fs told) in
+    let committed = take old.state.bytes (bytes_now (fs (segment_name old.number))) in
+    let number = c.pass_line.ensures.number ∙ c.in_ok-find_line.ensures.number in
+    let state = c.pass_line.ensures.state ∙ c.in_ok-find_line.ensures.state in
+    let offset = c.pass_line.ensures.offset ∙ ap (λ offset. offset + (length line + 1)) c.in_ok-find_line.ensures.offset in
+    ap (λ lines. unread lines fs) c.pass_line.ensures.lines
+    ∙ sym (left_behind_line committed line (unread c.find_line.new.self.lines fs) old.offset (sym over ∙ split))
+    ∙ ap (λ at. drop at committed) (sym offset)
+    ∙ ap (λ (s : SegmentState). drop new.offset (take s.bytes (bytes_now (fs (segment_name old.number))))) (sym state)
+    ∙ ap (λ n. drop new.offset (take new.state.bytes (bytes_now (fs (segment_name n))))) (sym number)
