@@ -19,3 +19,4 @@ mod ShelfReadLemmas
 mod StepLemmas
 mod WholeLemmas
 mod WrittenLemmas
+mod OpeningLemmas

@@ -78,7 +78,7 @@ pub record IsLastOf (segments : List SegmentState) (last : SegmentState) : Type 
   pub is : segments ≡ front ++ last ∷ []
   pub number : length front ≡ length segments - 1
 
-last_splits : (segments : List SegmentState) (last : SegmentState) → slice_get segments (length segments - 1) ≡ Some last → IsLastOf segments last
+pub last_splits : (segments : List SegmentState) (last : SegmentState) → slice_get segments (length segments - 1) ≡ Some last → IsLastOf segments last
 last_splits [] last is = cc
 last_splits (a ∷ []) last is = record { front = []; is = (let same : a ≡ last = cc in ap (λ x. x ∷ []) same); number = refl }
 last_splits (a ∷ b ∷ more) last is =
@@ -88,7 +88,7 @@ last_splits (a ∷ b ∷ more) last is =
     down : slice_get (a ∷ b ∷ more) (length (a ∷ b ∷ more) - 1) ≡ Some last → slice_get (b ∷ more) (length (b ∷ more) - 1) ≡ Some last
     down at = simp unary_clauses (simp unary_clauses at at)
 
-none_is_empty : (segments : List SegmentState) → slice_get segments (length segments - 1) ≡ None → length segments ≡ 0
+pub none_is_empty : (segments : List SegmentState) → slice_get segments (length segments - 1) ≡ None → length segments ≡ 0
 none_is_empty [] is = refl
 none_is_empty (a ∷ []) is = cc
 none_is_empty (a ∷ b ∷ more) is = absurd (within (length (b ∷ more)) (a ∷ b ∷ more) (omega arith) (simp unary_clauses at is)) where
