@@ -1,4 +1,4 @@
-use Rattle.std.proofs.Common.{◌≡◌, ◌∙◌, ap, sym, subst}
+use Rattle.std.proofs.Common.{◌∙◌, sym}
 use Rattle.voy_disk.specs.ChangeLaws.{others_same, others_still}
 use Rattle.voy_queue.proofs.OpeningLemmas.{enough_there, stands_settled}
 use Rattle.voy_queue.proofs.settling.settle_end.Goals as goal
