@@ -1,5 +1,5 @@
 -- What the commit of one segment leaves: its file, and the shelf in each image.
-use Rattle.std.proofs.Common.{◌≡◌, ◌≢◌, ◌≤◌, ◌<◌, ◌+◌, ◌-◌, ◌⊎◌, inl, inr, ℕ, zero, suc, Bool, true, false, List, [], ◌∷◌, ◌++◌, Option, Some, None, Result, Ok, Err, length, take, refl, sym, ap, ◌∙◌, subst, arith}
+use Rattle.std.proofs.Common.{◌≡◌, ◌≤◌, ◌+◌, inl, inr, ℕ, Bool, true, false, List, [], ◌∷◌, ◌++◌, Option, Some, None, Result, Ok, Err, length, refl, sym, ap, ◌∙◌, subst, arith}
 use Rattle.std.specs.Prelude.{OnOk}
 use Rattle.std.proofs.lemmas.Bool.{leb-true, ltb-true}
 use Rattle.std.proofs.lemmas.List.{length-append}
@@ -8,13 +8,13 @@ use Rattle.voy_disk.specs.ChangeLaws.{at_new}
 use Rattle.voy_disk.specs.File.{settled}
 use Rattle.voy_disk.specs.FileLaws.{one_image}
 use Rattle.voy_disk.specs.Files.{Files, IfTold}
-use Rattle.voy_disk.specs.Frames.{EitherOf, KeepsBeside, KeepsOtherFiles, OneName, OneOf}
-use Rattle.voy_disk.specs.FrameLaws.{files_beside_again, files_beside_more, files_beside_nothing}
+use Rattle.voy_disk.specs.Frames.{KeepsBeside, KeepsOtherFiles, OneName, OneOf}
+use Rattle.voy_disk.specs.FrameLaws.{files_beside_again, files_beside_more}
 use Rattle.voy_disk.specs.Fronts.{KeepsFront}
 use Rattle.voy_disk.specs.ImageLaws.{image_there}
 use Rattle.voy_disk.specs.Images.{Image, ImagesOf, bytes_in}
 use Rattle.voy_disk.specs.StepLaws.{follows_nothing, follows_weaker, some_of_one}
-use Rattle.voy_disk.specs.Steps.{Does, Every, Follows, LeavesPrefix, Same, SomeFirst}
+use Rattle.voy_disk.specs.Steps.{Does, Every, Follows, LeavesPrefix}
 use Rattle.voy_meta.specs.Meta.{AddsRecords, MetaStands, ReadsAs, meta_name, meta_state}
 use Rattle.voy_meta.specs.MetaLaws.{stands_beside_one, state_in_each}
 use Rattle.voy_meta.specs.Allowed.{is_within}

@@ -1,5 +1,5 @@
 -- One turn of the loop over what is pending.
-use Rattle.std.proofs.Common.{◌≡◌, ◌≢◌, ◌≤◌, ◌<◌, ◌+◌, ◌⊎◌, inl, inr, ℕ, zero, suc, Bool, true, false, List, [], ◌∷◌, ◌++◌, Option, Some, None, Result, Ok, Err, get_or, length, map, take, drop, refl, sym, ap, ◌∙◌, subst, arith, is_some}
+use Rattle.std.proofs.Common.{◌≡◌, ◌<◌, ◌+◌, inl, inr, ℕ, true, false, List, [], ◌∷◌, ◌++◌, Option, get_or, length, map, take, drop, refl, sym, ap, ◌∙◌, subst, is_some}
 use Rattle.std.proofs.lemmas.List.{append_assoc, drop_more, map-append, take-append-drop, take_more}
 use Rattle.voy_disk.specs.Calls.{Change}
 use Rattle.voy_disk.specs.Files.{Files}
@@ -10,13 +10,12 @@ use Rattle.voy_disk.specs.PrefixLaws.{does_on, leaves_more, leaves_on}
 use Rattle.voy_disk.specs.Steps.{Does, Follows, LeavesPrefix, after_all}
 use Rattle.voy_meta.specs.Allowed.{writes}
 use Rattle.voy_meta.specs.FoldLaws.{state_on}
-use Rattle.voy_meta.specs.Meta.{meta_name}
 use Rattle.voy_meta.specs.Sides.{leads_to, request_of}
 use Rattle.voy_meta.specs.State.{after_record, state_after}
 use Rattle.voy_meta.specs.declared.state.MetaState.{MetaState}
 use Rattle.voy_queue.specs.Commit.{names_of}
 use Rattle.voy_queue.specs.Names.{segment_name}
-use Rattle.voy_queue.specs.Putting.{AreBehind, IsBehind, commit_of, end_of, entry_of, recorded_end}
+use Rattle.voy_queue.specs.Putting.{AreBehind, commit_of, end_of, entry_of, recorded_end}
 use Rattle.voy_queue.specs.PuttingLaws.{IsOpenWithin, one_within}
 use Rattle.voy_queue.specs.Shelf.{Commits, Shelf, shelf_after, shelf_in}
 use Rattle.voy_queue.specs.declared.end.Added.{Added}

@@ -2,7 +2,7 @@
 use Rattle.std.proofs.Common.{◌≡◌, ◌≢◌, ◌≤◌, ◌<◌, ◌+◌, ◌-◌, ℕ, zero, suc, List, [], ◌∷◌, ◌++◌, Option, Some, None, Result, Ok, Err, length, take, drop, refl, sym, ap, ◌∙◌, subst, arith}
 use Rattle.std.specs.Prelude.{OnOk}
 use Rattle.std.proofs.Math.ListN.{drop_of_length-le}
-use Rattle.std.proofs.Math.Seq.{take-append_seam, take-length}
+use Rattle.std.proofs.Math.Seq.{take-length}
 use Rattle.std.proofs.lemmas.List.{append-nil, append_assoc, length-append, length-take-le, take-append-drop, take-take, drop-take}
 use Rattle.voy_disk.specs.Calls.{Change, Changes, CutFailed, IsThereWith, Leaves, Smeared, SyncFailed, Synced, WasCut, Wrote}
 use Rattle.voy_disk.specs.ChangeLaws.{at_new}
@@ -15,8 +15,8 @@ use Rattle.voy_disk.specs.FrontCallLaws.{front_still, write_keeps_front}
 use Rattle.voy_disk.specs.Fronts.{HasFront, KeepsFront}
 use Rattle.voy_disk.specs.ImageLaws.{file_same, image_there}
 use Rattle.voy_disk.specs.Images.{Image, ImagesOf, bytes_in}
-use Rattle.voy_disk.specs.StepLaws.{follows_nothing, follows_on, follows_weaker}
-use Rattle.voy_disk.specs.Steps.{Every, Follows}
+use Rattle.voy_disk.specs.StepLaws.{follows_on, follows_weaker}
+use Rattle.voy_disk.specs.Steps.{Follows}
 use Rattle.voy_disk.specs.declared.disk.DiskError.{DiskError}
 use Rattle.voy_queue.specs.Commit.{IsSafeBehind, IsSafeTo, ReadsBehind}
 

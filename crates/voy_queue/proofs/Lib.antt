@@ -20,3 +20,4 @@ mod ShelfReadLemmas
 mod StepLemmas
 mod WholeLemmas
 mod WrittenLemmas
+mod OpeningLemmas

@@ -1,7 +1,7 @@
 -- What stands behind the recorded end of the queue may be recorded, and the recorded end is then where it ends.
-use Rattle.std.proofs.Common.{◌≡◌, ◌≢◌, ◌≤◌, ◌<◌, ◌+◌, ◌-◌, ◌&&◌, ◌||◌, ◌==◌, ℕ, zero, suc, Bool, true, false, not, List, [], ◌∷◌, ◌++◌, Option, Some, None, length, take, refl, sym, ap, ◌∙◌, subst, arith, is_some, nat_lt, nat_le, if◌then◌else◌, rules}
+use Rattle.std.proofs.Common.{◌≡◌, ◌≤◌, ◌<◌, ◌+◌, ◌-◌, ◌||◌, ℕ, suc, Bool, true, false, not, List, [], ◌∷◌, ◌++◌, Option, Some, None, length, take, refl, sym, ap, ◌∙◌, arith, is_some}
 use Rattle.std.specs.Prelude.{slice_get}
-use Rattle.std.proofs.lemmas.Bool.{and_parts, and_from, eq-eqb, le-leb, lt-ltb, leb-true}
+use Rattle.std.proofs.lemmas.Bool.{and_parts, and_from, eq-eqb, le-leb, lt-ltb}
 use Rattle.std.proofs.lemmas.List.{length-append, length-take-le}
 use Rattle.voy_meta.specs.Allowed.{goes_on, has_snapshot, is_allowed, may_end, spot_follows, vsn_before, writes}
 use Rattle.voy_meta.specs.Sides.{is_ended, last_of, last_segment, leads_to, request_of}
@@ -9,9 +9,8 @@ use Rattle.voy_meta.specs.State.{after_record}
 use Rattle.voy_meta.specs.declared.limits.TheConstants.{MAX_SEGMENT, VERSION}
 use Rattle.voy_meta.specs.declared.state.MetaState.{MetaState}
 use Rattle.voy_meta.specs.declared.state.SegmentState.{SegmentState}
-use Rattle.voy_queue.specs.Putting.{IsBehind, end_at, entry_of, recorded_end, room_for}
+use Rattle.voy_queue.specs.Putting.{IsBehind, end_at, entry_of, recorded_end}
 use Rattle.voy_queue.specs.declared.end.Added.{Added}
-use Rattle.voy_queue.specs.declared.end.End.{End}
 use Rattle.voy_tables.specs.declared.change.Role.{Role}
 use Rattle.voy_tables.specs.declared.change.Role.TheVariants as role
 use Rattle.voy_tables.specs.declared.change.Spot.{Spot}

@@ -1,6 +1,6 @@
 -- What a commit's calls leave of the shelf in each image: what stood, and then a record with its bytes more.
-use Rattle.std.proofs.Common.{◌≡◌, ◌≢◌, ◌≤◌, ◌<◌, ◌+◌, ◌-◌, ◌^◌, ◌⊎◌, inl, inr, ℕ, zero, suc, Bool, true, false, List, [], ◌∷◌, ◌++◌, Option, Some, None, length, take, drop, refl, sym, ap, ◌∙◌, subst, arith, decimal, codes}
-use Rattle.std.specs.Prelude.{slice_get, unwrap_or}
+use Rattle.std.proofs.Common.{◌≡◌, ◌≢◌, ◌≤◌, ◌<◌, ◌+◌, ◌-◌, ℕ, zero, suc, Bool, true, false, List, [], ◌∷◌, ◌++◌, Option, Some, None, length, take, refl, sym, ap, ◌∙◌, arith, decimal, codes}
+use Rattle.std.specs.Prelude.{slice_get}
 use Rattle.std.specs.Option.{option_map}
 use native.Mathlib.Numerals.{unary_clauses}
 use Rattle.std.proofs.Math.Seq.{take-append_seam, take-length}
@@ -11,7 +11,7 @@ use Rattle.voy_disk.specs.Images.{Image, SameBut, bytes_in}
 use Rattle.voy_journal.specs.Journal.{payloads_in}
 use Rattle.voy_meta.specs.FoldLaws.{state_on}
 use Rattle.voy_meta.specs.Meta.{AddsRecords, ReadsAs, meta_name, records_in, records_told}
-use Rattle.voy_meta.specs.State.{after_record, empty_state, state_after, state_of}
+use Rattle.voy_meta.specs.State.{after_record, empty_state, state_of}
 use Rattle.voy_meta.specs.Sides.{is_ended, last_of, last_segment}
 use Rattle.voy_meta.specs.declared.limits.TheConstants.{MAX_SEGMENT}
 use Rattle.voy_meta.specs.declared.record.MetaRecord.{MetaRecord}
@@ -19,9 +19,8 @@ use Rattle.voy_meta.specs.declared.state.MetaState.{MetaState}
 use Rattle.voy_meta.specs.declared.state.SegmentState.{SegmentState}
 use Rattle.voy_queue.specs.Names.{segment_name}
 use Rattle.voy_queue.specs.Putting.{IsBehind, commit_of, end_at, entry_of, recorded_end, room_for}
-use Rattle.voy_queue.specs.Shelf.{Commits, committed, segment_at, segments_in, shelf_after, shelf_in}
+use Rattle.voy_queue.specs.Shelf.{committed, segment_at, segments_in, shelf_after, shelf_in}
 use Rattle.voy_queue.specs.declared.end.Added.{Added}
-use Rattle.voy_queue.specs.declared.end.End.{End}
 use Rattle.voy_queue.proofs.RecordLemmas.{recorded_segment, segments_recorded}
 use Rattle.voy_tables.specs.declared.change.Role.{Role}
 use Rattle.voy_tables.specs.declared.change.Spot.{Spot}
@@ -78,7 +77,7 @@ pub record IsLastOf (segments : List SegmentState) (last : SegmentState) : Type 
   pub is : segments ≡ front ++ last ∷ []
   pub number : length front ≡ length segments - 1
 
-last_splits : (segments : List SegmentState) (last : SegmentState) → slice_get segments (length segments - 1) ≡ Some last → IsLastOf segments last
+pub last_splits : (segments : List SegmentState) (last : SegmentState) → slice_get segments (length segments - 1) ≡ Some last → IsLastOf segments last
 last_splits [] last is = cc
 last_splits (a ∷ []) last is = record { front = []; is = (let same : a ≡ last = cc in ap (λ x. x ∷ []) same); number = refl }
 last_splits (a ∷ b ∷ more) last is =
@@ -88,7 +87,7 @@ last_splits (a ∷ b ∷ more) last is =
     down : slice_get (a ∷ b ∷ more) (length (a ∷ b ∷ more) - 1) ≡ Some last → slice_get (b ∷ more) (length (b ∷ more) - 1) ≡ Some last
     down at = simp unary_clauses (simp unary_clauses at at)
 
-none_is_empty : (segments : List SegmentState) → slice_get segments (length segments - 1) ≡ None → length segments ≡ 0
+pub none_is_empty : (segments : List SegmentState) → slice_get segments (length segments - 1) ≡ None → length segments ≡ 0
 none_is_empty [] is = refl
 none_is_empty (a ∷ []) is = cc
 none_is_empty (a ∷ b ∷ more) is = absurd (within (length (b ∷ more)) (a ∷ b ∷ more) (omega arith) (simp unary_clauses at is)) where

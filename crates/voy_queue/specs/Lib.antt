@@ -11,4 +11,5 @@ pub mod Behind
 pub mod Asking
 pub mod PuttingLaws
 pub mod Commit
+pub mod Opening
 pub mod Errors

@@ -11,6 +11,7 @@ mod cutover;
 mod end;
 mod error;
 mod growing;
+mod last_line;
 mod laws;
 mod limits;
 mod names;
@@ -20,7 +21,9 @@ mod reading;
 mod roles;
 mod segment;
 mod segment_reading;
+mod settling;
 mod writer;
+mod writer_open;
 
 pub use end::{Added, End, Pending};
 pub use error::QueueError;

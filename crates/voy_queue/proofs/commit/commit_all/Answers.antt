@@ -1,20 +1,15 @@
-use Rattle.std.proofs.Common.{◌≡◌, ◌≤◌, ◌∙◌, ◌+◌, arith, refl, sym, ap, subst, take, drop, map, IsTrue, true, false, length}
-use Rattle.std.proofs.lemmas.List.{take_all}
+use Rattle.std.proofs.Common.{◌≡◌, ◌∙◌, ◌+◌, arith, refl, sym, ap, subst, drop}
 use Rattle.voy_disk.specs.FrameLaws.{files_beside_nothing}
 use Rattle.voy_disk.specs.Frames.{OneOf}
 use Rattle.voy_disk.specs.StepLaws.{follows_nothing, follows_weaker}
-use Rattle.voy_disk.specs.PrefixLaws.{leaves_all}
-use Rattle.voy_disk.specs.Steps.{Does, Follows}
-use Rattle.voy_disk.specs.Images.{ImagesOf}
 use Rattle.voy_disk.specs.Files.{IfTold}
 use Rattle.voy_meta.specs.Meta.{meta_state}
-use Rattle.voy_meta.specs.State.{state_after}
 use Rattle.voy_queue.specs.Commit.{names_of}
-use Rattle.voy_queue.specs.Putting.{AreBehind, commit_of, end_of, entry_of, recorded_end}
-use Rattle.voy_queue.specs.Shelf.{shelf_after, shelf_in}
+use Rattle.voy_queue.specs.Putting.{AreBehind, recorded_end}
+use Rattle.voy_queue.specs.Shelf.{shelf_in}
 use Rattle.voy_queue.specs.Writer.{StandsIn}
 use Rattle.voy_queue.proofs.CommitLoop.{ended_now, asked_on, behind_at, end_more, images_more, may_on, others_more, state_more, stopped_at}
-use Rattle.voy_queue.proofs.RecordLemmas.{end_recorded, request_stays, snapshot_stays, writes_on}
+use Rattle.voy_queue.proofs.RecordLemmas.{end_recorded, snapshot_stays}
 use Rattle.voy_queue.proofs.commit.commit_all.Goals as goal
 
 pub loop-one-init : goal.loop-one-init

@@ -1,8 +1,6 @@
-use Rattle.std.proofs.Common.{refl}
-use Rattle.voy_disk.specs.FrameLaws.{files_beside_nothing}
 use Rattle.voy_meta.specs.Meta.{meta_state}
 use Rattle.voy_queue.specs.Putting.{recorded_end}
-use Rattle.voy_queue.proofs.CommitLemmas.{OneCommit, both_beside, few_bytes, meta_stays, more_bytes, recorded_all, recorded_leaves, room_safe, segment_beside, stands_recorded, written_leaves}
+use Rattle.voy_queue.proofs.CommitLemmas.{both_beside, few_bytes, meta_stays, more_bytes, recorded_all, recorded_leaves, room_safe, segment_beside, stands_recorded, written_leaves}
 use Rattle.voy_queue.proofs.commit.commit_one.Goals as goal
 
 pub add_bytes-requires-clause-small : goal.add_bytes-requires-clause-small

@@ -1,6 +1,6 @@
-use Rattle.std.proofs.Common.{Err, Ok}
+use Rattle.std.proofs.Common.{Err}
 use Rattle.voy_disk.specs.ChangeLaws.{change_weaker, others_after, others_after_create, others_on, others_still}
-use Rattle.voy_queue.proofs.GrowingLemmas.{cut_reads, front_kept, no_front_kept, safe_reads}
+use Rattle.voy_queue.proofs.GrowingLemmas.{cut_reads, no_front_kept, safe_reads}
 use Rattle.voy_queue.proofs.growing.begin_segment.Goals as goal
 
 pub returns-then-start-ne0-clause-ready : goal.returns-then-start-ne0-clause-ready

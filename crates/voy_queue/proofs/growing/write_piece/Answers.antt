@@ -1,4 +1,4 @@
-use Rattle.std.proofs.Common.{Err, Ok, ◌≤◌, ◌<◌, arith}
+use Rattle.std.proofs.Common.{Err, Ok, arith}
 use Rattle.voy_disk.specs.ChangeLaws.{change_weaker, others_after}
 use Rattle.voy_queue.proofs.GrowingLemmas.{behind_there, piece_keeps, piece_on, piece_reads}
 use Rattle.voy_queue.proofs.growing.write_piece.Goals as goal

@@ -1,8 +1,5 @@
-use Rattle.std.proofs.Common.{◌≡◌, ◌∙◌, ◌<◌, ◌≤◌, arith, length, subst, take, ℕ, refl}
-use Rattle.std.proofs.Math.Seq.{take-length}
+use Rattle.std.proofs.Common.{◌∙◌, arith, refl}
 use Rattle.voy_disk.specs.ChangeLaws.{others_on, others_still}
-use Rattle.voy_disk.specs.Files.{IfTold}
-use Rattle.voy_queue.specs.Commit.{ReadsBehind}
 use Rattle.voy_queue.proofs.GrowingLemmas.{front_kept, pieces_on, take_all}
 use Rattle.voy_queue.proofs.growing.write_pieces.Goals as goal
 
