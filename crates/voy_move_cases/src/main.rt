@@ -8,6 +8,7 @@
 mod allowed;
 mod files;
 mod payloads;
+mod queue;
 mod words;
 
 use std::alloc::Global;
@@ -33,6 +34,7 @@ fn came_to(alloc: Global, case: &Case) -> Result<String, Trouble> {
         "metadata" => files::metadata(alloc, case),
         "allowed" => allowed::allowed(alloc, case),
         "state" => allowed::state(alloc, case),
+        "queue" => queue::queue(alloc, case),
         _ => Err(Trouble::Case("no such kind")),
     }
 }
