@@ -1,5 +1,5 @@
 -- The records of what was put are allowed one behind the other.
-use Rattle.std.proofs.Common.{◌≡◌, ◌≢◌, ◌&&◌, true, false, List, [], ◌∷◌, map, is_some, refl, sym, ap, ◌∙◌, subst}
+use Rattle.std.proofs.Common.{◌≡◌, ◌≢◌, true, false, List, [], ◌∷◌, map, is_some, refl, sym, ap, ◌∙◌, subst}
 use Rattle.std.proofs.lemmas.Bool.{and_from}
 use Rattle.voy_meta.specs.Allowed.{allowed_after, has_snapshot, writes}
 use Rattle.voy_meta.specs.Sides.{leads_to, request_of}

@@ -1,15 +1,15 @@
 -- A test that an event is taken says that it may be put.
-use Rattle.std.proofs.Common.{◌≡◌, ◌≢◌, ◌≤◌, ◌<◌, ◌+◌, ◌&&◌, ◌||◌, ◌==◌, ℕ, suc, Bool, true, false, not, List, Option, Some, None, length, refl, sym, ap, ◌∙◌, arith, nat_le, nat_lt, is_some}
+use Rattle.std.proofs.Common.{◌≡◌, ◌≤◌, ◌+◌, ◌||◌, suc, Bool, true, false, not, List, Option, Some, None, length, refl, sym, ap, arith, nat_le, nat_lt, is_some}
 use Rattle.std.proofs.lemmas.Bool.{and_parts, and_from, eq-eqb, eqb-true, le-leb, leb-true, ltb-true, lt-ltb}
 use Rattle.voy_event.specs.EventLine.{max_event_line_bytes}
-use Rattle.voy_event.specs.Events.{ends_part, is_change}
+use Rattle.voy_event.specs.Events.{is_change}
 use Rattle.voy_event.specs.LawfulEvent.{IsLawful}
 use Rattle.voy_event.specs.LineText.{line_text}
 use Rattle.voy_event.specs.declared.event.Event.{Event}
 use Rattle.voy_meta.specs.Allowed.{spot_follows}
 use Rattle.voy_meta.specs.Sides.{is_role}
 use Rattle.voy_meta.specs.declared.limits.TheConstants.{MAX_SEGMENT, MAX_VSN}
-use Rattle.voy_queue.specs.Asking.{has_place, has_room, is_next, takes}
+use Rattle.voy_queue.specs.Asking.{has_place, has_room, takes}
 use Rattle.voy_queue.specs.Putting.{MayFollow, room_for}
 use Rattle.voy_queue.specs.declared.end.End.{End}
 use Rattle.voy_schema.specs.declared.table.Table.{Table}

@@ -1,5 +1,5 @@
 -- What a reader has left when a segment begins or ends.
-use Rattle.std.proofs.Common.{◌≡◌, ◌≢◌, ◌≤◌, ◌<◌, ◌+◌, ◌-◌, ℕ, zero, suc, Bool, true, false, nat_lt, List, [], ◌∷◌, Option, Some, None, length, take, drop, refl, sym, ap, ◌∙◌, arith}
+use Rattle.std.proofs.Common.{◌≡◌, ◌≤◌, ◌+◌, ◌-◌, ℕ, zero, suc, true, false, nat_lt, List, [], ◌∷◌, Some, None, take, drop, refl, sym, ap, ◌∙◌, arith}
 use Rattle.std.proofs.lemmas.Bool.Decides.{nat_tests}
 use Rattle.std.specs.Prelude.{slice_get}
 use Rattle.voy_disk.specs.Files.{Files}
@@ -9,7 +9,7 @@ use Rattle.voy_queue.specs.Reader.{has_event, has_event_in, left, left_behind, l
 use Rattle.voy_queue.specs.Segment.{events_left}
 use Rattle.voy_queue.specs.declared.reader.Reader.{Reader}
 use Rattle.voy_queue.specs.declared.segment.OpenSegment.{OpenSegment}
-use Rattle.voy_queue.specs.Reading.{QueueReading, behind_event, events_reading, nothing_left, segments_reading}
+use Rattle.voy_queue.specs.Reading.{behind_event, events_reading, nothing_left, segments_reading}
 use Rattle.voy_schema.specs.declared.table.Table.{Table}
 
 drop_none : {A : Type 0} (xs : List A) (n : ℕ) → slice_get xs n ≡ None → drop n xs ≡ []

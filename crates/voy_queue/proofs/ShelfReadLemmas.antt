@@ -1,16 +1,15 @@
 -- The queue of a shelf is that of its image.
-use Rattle.std.proofs.Common.{◌≡◌, ◌+◌, ◌-◌, ℕ, zero, suc, List, [], ◌∷◌, Option, Some, None, length, take, refl, sym, ap, ◌∙◌, arith}
+use Rattle.std.proofs.Common.{◌≡◌, ◌+◌, ◌-◌, ℕ, zero, suc, List, [], ◌∷◌, Option, take, refl, ap, ◌∙◌, arith}
 use Rattle.std.specs.Prelude.{slice_get}
 use Rattle.std.specs.Option.{unwrap_or}
 use Rattle.voy_disk.specs.Images.{Image, bytes_in}
-use Rattle.voy_meta.specs.Meta.{records_in}
 use Rattle.voy_meta.specs.State.{state_of}
 use Rattle.voy_meta.specs.declared.record.MetaRecord.{MetaRecord}
 use Rattle.voy_meta.specs.declared.state.SegmentState.{SegmentState}
 use Rattle.voy_queue.specs.Laws.{ShelvesAreRead}
 use Rattle.voy_queue.specs.Names.{segment_name}
-use Rattle.voy_queue.specs.Reading.{QueueReading, events_reading, queue_reading, segments_reading}
-use Rattle.voy_queue.specs.Shelf.{committed, reading_of, segment_at, segments_in, shelf_in}
+use Rattle.voy_queue.specs.Reading.{events_reading, segments_reading}
+use Rattle.voy_queue.specs.Shelf.{committed, reading_of, segment_at, segments_in}
 use Rattle.voy_schema.specs.declared.table.Table.{Table}
 
 take_twice : (n : ℕ) (xs : List ℕ) → take n (take n xs) ≡ take n xs

@@ -1,6 +1,6 @@
 -- Which events a writer takes, as tests.
-use Rattle.std.specs.Prelude.{ℕ, ◌+◌, Bool, true, false, ◌&&◌, ◌||◌, ◌==◌, not, nat_le, nat_lt, Option, Some, None}
-use Rattle.voy_event.specs.Events.{ends_part, is_change}
+use Rattle.std.specs.Prelude.{◌+◌, Bool, ◌&&◌, ◌||◌, ◌==◌, not, nat_le, nat_lt, Option, Some, None}
+use Rattle.voy_event.specs.Events.{is_change}
 use Rattle.voy_event.specs.declared.event.Event.{Event}
 use Rattle.voy_meta.specs.Allowed.{spot_follows}
 use Rattle.voy_meta.specs.Sides.{is_role}

@@ -1,7 +1,7 @@
 -- That pending segments stand behind an end is a proposition.
 use Rattle.std.proofs.Common.{List, [], ◌∷◌}
 use Rattle.std.proofs.Props.{props}
-use Rattle.voy_queue.specs.Putting.{AreBehind, IsBehind}
+use Rattle.voy_queue.specs.Putting.{AreBehind}
 use Rattle.voy_queue.specs.declared.end.Added.{Added}
 use Rattle.voy_queue.specs.declared.end.End.{End}
 

@@ -1,5 +1,5 @@
 -- What a segment has left that is read.
-use Rattle.std.specs.Prelude.{◌≡◌, ◌<◌, ◌+◌, ℕ, Bool, List, Some, drop, length, take}
+use Rattle.std.specs.Prelude.{◌≡◌, ◌<◌, ℕ, List, Some, drop, length, take}
 use Rattle.voy_disk.specs.Files.{Files, bytes_now}
 use Rattle.voy_event.specs.EventLine.{max_event_line_bytes}
 use Rattle.voy_files.specs.Reader.{StandsAt, line_limit, unread}

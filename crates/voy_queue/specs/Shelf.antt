@@ -1,5 +1,5 @@
 -- What an export disk holds of the queue, as it reads: the records of the metadata, and the committed bytes of each recorded segment.
-use Rattle.std.specs.Prelude.{◌≡◌, ℕ, suc, List, [], ◌∷◌, ◌++◌, Option, Some, None, length, slice_get, take}
+use Rattle.std.specs.Prelude.{ℕ, suc, List, [], ◌∷◌, ◌++◌, Option, Some, None, slice_get, take}
 use Rattle.std.specs.Option.{option_map, unwrap_or}
 use Rattle.voy_disk.specs.Images.{Image, bytes_in}
 use Rattle.voy_meta.specs.Meta.{records_in}

@@ -1,4 +1,4 @@
-use Rattle.std.proofs.Common.{rules, ◌≡◌, ℕ, ◌<◌, Bool, true, false, List}
+use Rattle.std.proofs.Common.{rules}
 use Rattle.voy_queue.specs.Names.{segment_name}
 use Rattle.voy_queue.proofs.NameLemmas.{segment_is_named}
 use Rattle.voy_queue.proofs.names.segment_file.Goals as goal

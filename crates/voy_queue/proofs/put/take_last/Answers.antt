@@ -1,8 +1,6 @@
-use Rattle.std.proofs.Common.{rules, ◌≡◌, ◌≤◌, ◌<◌, ℕ, List, [], ◌∷◌, ◌++◌, Option, Some, None, false, true, ap, refl, sym, ◌∙◌, subst}
-use Rattle.voy_event.specs.declared.event.Event.{Event}
-use Rattle.voy_meta.specs.declared.limits.TheConstants.{MAX_SEGMENT, OPEN_SEGMENT_BYTES}
-use Rattle.voy_queue.specs.Putting.{AreBehind, added_to, end_of, pending_after, room_for}
-use Rattle.voy_queue.specs.declared.end.Added.{Added}
+use Rattle.std.proofs.Common.{◌≡◌, ◌≤◌, [], ◌∷◌, ◌++◌, Some, false, ap, refl, sym, ◌∙◌, subst}
+use Rattle.voy_meta.specs.declared.limits.TheConstants.{MAX_SEGMENT}
+use Rattle.voy_queue.specs.Putting.{AreBehind, room_for}
 use Rattle.voy_queue.specs.declared.end.End.{End}
 use Rattle.voy_queue.proofs.PendingLemmas.{last_of, last_end, open_is_small, last_behind, into_open, in_room, behind_closed, front_behind, last_is_behind}
 use Rattle.voy_queue.proofs.put.take_last.Goals as goal

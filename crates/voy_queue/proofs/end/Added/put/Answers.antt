@@ -1,5 +1,5 @@
-use Rattle.std.proofs.Common.{◌≡◌, ◌++◌, ◌≤◌, ◌+◌, ap, arith, length, ◌∙◌, subst, ℕ, List, ◌-◌, Fits, w64, rules}
-use Rattle.voy_queue.specs.Lines.{closing_bytes, event_bytes}
+use Rattle.std.proofs.Common.{◌++◌, ◌≤◌, ◌+◌, ap, arith, length, ◌∙◌}
+use Rattle.voy_queue.specs.Lines.{closing_bytes}
 use Rattle.voy_queue.proofs.PendingLemmas.{lines_are_short}
 use Rattle.voy_queue.proofs.end.Added.put.Goals as goal
 

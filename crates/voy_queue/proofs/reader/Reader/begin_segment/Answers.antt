@@ -1,4 +1,4 @@
-use Rattle.std.proofs.Common.{◌≡◌, ◌∙◌, ap, sym, rules}
+use Rattle.std.proofs.Common.{◌∙◌, ap, sym}
 use Rattle.std.specs.Prelude.{take}
 use Rattle.voy_disk.specs.Files.{bytes_now}
 use Rattle.voy_files.specs.Reader.{unread}

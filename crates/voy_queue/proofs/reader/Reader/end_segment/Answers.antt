@@ -1,4 +1,4 @@
-use Rattle.std.proofs.Common.{◌≡◌, ◌∙◌, ap, sym, rules}
+use Rattle.std.proofs.Common.{◌∙◌, sym}
 use Rattle.voy_queue.proofs.reader.Reader.end_segment.Goals as goal
 
 pub end-requires : goal.end-requires

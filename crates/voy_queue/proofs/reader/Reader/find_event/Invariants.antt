@@ -1,5 +1,5 @@
-use Rattle.std.proofs.Common.{◌≡◌, ◌≤◌, ◌-◌, ℕ, List, length}
-use Rattle.voy_disk.specs.Files.{Files, IfTold}
+use Rattle.std.proofs.Common.{◌≡◌, ◌≤◌, ◌-◌, List, length}
+use Rattle.voy_disk.specs.Files.{IfTold}
 use Rattle.voy_queue.specs.Reader.{ReadsCommitted, left}
 use Rattle.voy_schema.specs.declared.table.Table.{Table}
 use Rattle.voy_queue.proofs.reader.Reader.find_event.Given as goal

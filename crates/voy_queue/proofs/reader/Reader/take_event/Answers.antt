@@ -1,7 +1,7 @@
-use Rattle.std.proofs.Common.{◌≡◌, ◌∙◌, ◌+◌, ap, subst, sym, suc, rules}
+use Rattle.std.proofs.Common.{◌∙◌, subst, sym}
 use Rattle.std.proofs.lemmas.Result.{err_from_is_err_and}
 use Rattle.voy_queue.proofs.ReaderLemmas.{one_left, same_segment}
-use Rattle.voy_queue.specs.Reader.{left, left_behind}
+use Rattle.voy_queue.specs.Reader.{left_behind}
 use Rattle.voy_queue.specs.Reading.{QueueReading}
 use Rattle.voy_queue.specs.Segment.{Tells}
 use Rattle.voy_queue.proofs.reader.Reader.take_event.Goals as goal

@@ -1,4 +1,4 @@
-use Rattle.std.proofs.Common.{◌≡◌, ◌∙◌, ap, sym, subst, refl, ◌+◌, length, ℕ, rules, IsTrue, IsFalse}
+use Rattle.std.proofs.Common.{◌∙◌, sym, subst, refl, ◌+◌, rules}
 use Rattle.voy_files.specs.Reader.{StandsAt, bytes_taken, found_line, line_limit, unread}
 use Rattle.voy_queue.proofs.FoundLemmas.{not_a_line, torn_line, whole_line}
 use Rattle.voy_queue.proofs.segment.OpenSegment.find_line.Goals as goal

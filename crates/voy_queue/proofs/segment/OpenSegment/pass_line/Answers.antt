@@ -1,4 +1,4 @@
-use Rattle.std.proofs.Common.{◌≡◌, ◌+◌, length, rules}
+use Rattle.std.proofs.Common.{◌+◌, length}
 use Rattle.voy_files.specs.Reader.{found_line}
 use Rattle.voy_queue.proofs.segment.OpenSegment.pass_line.Goals as goal
 

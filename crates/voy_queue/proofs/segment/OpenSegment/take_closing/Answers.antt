@@ -1,7 +1,5 @@
-use Rattle.std.proofs.Common.{◌≡◌, rules}
 use Rattle.voy_files.specs.Reader.{unread}
 use Rattle.voy_queue.proofs.SegmentLemmas.{no_line_at_end, tells_damage}
-use Rattle.voy_queue.specs.Reading.{end_reading}
 use Rattle.voy_queue.proofs.segment.OpenSegment.take_closing.Goals as goal
 
 -- no line is left

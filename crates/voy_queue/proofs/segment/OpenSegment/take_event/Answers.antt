@@ -1,9 +1,9 @@
-use Rattle.std.proofs.Common.{drop, take, ◌≡◌, ◌∙◌, ◌-◌, ◌+◌, length, ap, sym, rules, Some, None}
+use Rattle.std.proofs.Common.{drop, take, ◌≡◌, ◌∙◌, ◌-◌, ◌+◌, length, ap, sym, Some, None}
 use Rattle.voy_disk.specs.Files.{bytes_now}
 use Rattle.voy_files.specs.Reader.{found_line, unread}
 use Rattle.voy_queue.proofs.FoundLemmas.{first_splits, left_behind_line}
 use Rattle.voy_queue.specs.Names.{segment_name}
-use Rattle.voy_queue.proofs.SegmentLemmas.{due_goes_on, due_vsn, no_line_damages, not_due_damages, same_events, tells_damage}
+use Rattle.voy_queue.proofs.SegmentLemmas.{due_goes_on, due_vsn, not_due_damages, same_events, tells_damage}
 use Rattle.voy_meta.specs.declared.state.SegmentState.{SegmentState}
 use Rattle.voy_queue.specs.Reading.{due_event}
 use Rattle.voy_queue.proofs.segment.OpenSegment.take_event.Goals as goal

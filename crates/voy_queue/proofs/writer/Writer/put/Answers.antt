@@ -1,4 +1,4 @@
-use Rattle.std.proofs.Common.{◌≡◌, ◌∙◌, ap, subst, sym, List, [], ◌∷◌, ◌++◌, rules}
+use Rattle.std.proofs.Common.{◌≡◌, ◌∙◌, ap, subst, sym, [], ◌∷◌, ◌++◌}
 use Rattle.voy_queue.specs.Putting.{AreBehind, end_after, end_of, pending_after}
 use Rattle.voy_queue.specs.PuttingLaws.{are_behind_law, ends_with_put}
 use Rattle.voy_queue.specs.declared.end.Added.{Added}

@@ -1,4 +1,4 @@
-use Rattle.std.proofs.Common.{◌≡◌, ◌∙◌, sym, true, rules, IsTrue}
+use Rattle.std.proofs.Common.{◌∙◌, sym}
 use Rattle.voy_queue.proofs.AskingLemmas.{may_be_put_is_taken, taken_has_room, taken_may_be_put}
 use Rattle.voy_queue.specs.Writer.{writer_end, writer_role}
 use Rattle.voy_queue.proofs.writer.Writer.takes.Goals as goal
