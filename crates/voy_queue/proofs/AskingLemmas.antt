@@ -88,3 +88,6 @@ may_be_put_is_taken schema role end event spot may =
     and_from _ _
     (and_from _ _ (eq-eqb event.vsn (end.last_vsn + 1) may.next) (and_from _ _ (le-leb event.vsn MAX_VSN may.vsn) (and_from _ _ (role_is event.role role may.exporter) (ap not may.goes_on))))
     (and_from _ _ (is_room end may.segment) (has_its_place end event spot may.placed may.place))
+
+pub taken_has_room : (role : Role) (end : End) (event : Event) (spot : Option Spot) → takes role end event spot ≡ true → (room_for end).number ≤ MAX_SEGMENT
+taken_has_room role end event spot taken = room_is end (and_parts _ _ (and_parts _ _ taken).1).0

@@ -1,3 +1,4 @@
+mod AllowedLemmas
 mod AskingLemmas
 mod CommitLemmas
 mod CommitLoop

@@ -1,14 +1,18 @@
 -- What contracts see of a writer, and what it asks of the disk that it is lent.
-use Rattle.std.specs.Prelude.{◌≡◌, ◌≢◌, ℕ, Bool, List, ◌∷◌, Option, Some, length, map}
+use Rattle.std.specs.Prelude.{◌≡◌, ◌≢◌, ◌≤◌, ℕ, Bool, List, ◌∷◌, Option, Some, length, map}
 use Rattle.voy_disk.specs.File.{settled}
 use Rattle.voy_disk.specs.Files.{Files, IfTold}
 use Rattle.voy_disk.specs.Fronts.{HasFront}
 use Rattle.voy_disk.specs.Images.{Image}
+use Rattle.voy_event.specs.EventLine.{max_event_line_bytes}
+use Rattle.voy_event.specs.LawfulEvent.{IsLawful}
+use Rattle.voy_event.specs.LineText.{line_text}
 use Rattle.voy_event.specs.declared.event.Event.{Event}
+use Rattle.voy_meta.specs.declared.limits.TheConstants.{MAX_SEGMENT}
 use Rattle.voy_meta.specs.Meta.{meta_name}
 use Rattle.voy_meta.specs.declared.record.MetaRecord.{MetaRecord}
 use Rattle.voy_queue.specs.Names.{segment_name}
-use Rattle.voy_queue.specs.Putting.{MayFollow, commit_of, end_of, entry_of}
+use Rattle.voy_queue.specs.Putting.{MayFollow, commit_of, end_of, entry_of, room_for}
 use Rattle.voy_queue.specs.Shelf.{Commits, shelf_in}
 use Rattle.voy_queue.specs.declared.end.Added.{Added}
 use Rattle.voy_queue.specs.declared.end.End.{End}
@@ -50,9 +54,11 @@ commits_of writer = map (commit_of writer.role) writer.pending
 abbrev pub commit_names : Writer → List (List ℕ)
 commit_names writer = meta_name ∷ map (λ (one : Added). segment_name one.end.number) writer.pending
 
--- an event that may be put
-abbrev pub MayPut : List Table → Writer → Event → Option Spot → Type 0
-MayPut schema writer event spot = MayFollow schema writer.role (writer_end writer) event spot
+-- an event that may be put: it belongs to the schema, a segment is left for it, and it may follow where its line is within the limit
+pub record MayPut (schema : List Table) (writer : Writer) (event : Event) (spot : Option Spot) : Type 0 where
+  pub lawful : IsLawful schema event
+  pub room : (room_for (writer_end writer)).number ≤ MAX_SEGMENT
+  pub follows : length (line_text schema event) ≤ max_event_line_bytes → MayFollow schema writer.role (writer_end writer) event spot
 
 -- what a writer asks of the disk that it is lent, where told: the file of the last segment has just its committed bytes, all safe
 pub record StandsIn (end : End) (files : Files) : Type 0 where

@@ -38,11 +38,10 @@ impl Writer {
         end_of(self.end, self.pending.as_slice())
     }
 
-    /// Whether an event with this place may be put, where it belongs to the schema and its line is within its limit.
+    /// Whether an event with this place may be put, where it belongs to the schema.
     pub fn takes(&self, event: &Event, spot: Option<Spot>) -> bool
-        ensures may { (schema : List Table) → IsTrue result → IsLawful schema event.now → length (line_text schema event.now) ≤ max_event_line_bytes
-            → MayPut schema self.now event.now spot }
-        ensures all { (schema : List Table) → MayPut schema self.now event.now spot → IsTrue result }
+        ensures may { (schema : List Table) → IsTrue result → IsLawful schema event.now → MayPut schema self.now event.now spot }
+        ensures all { (schema : List Table) → MayPut schema self.now event.now spot → length (line_text schema event.now) ≤ max_event_line_bytes → IsTrue result }
     {
         self.is_taken(event, spot)
     }

@@ -6,7 +6,7 @@ ghost use Rattle.voy_disk.specs.Frames.{KeepsBeside, KeepsOtherFiles, OneOf};
 ghost use Rattle.voy_disk.specs.Fronts.{KeepsFront};
 ghost use Rattle.voy_disk.specs.Images.{ImagesOf};
 ghost use Rattle.voy_disk.specs.Steps.{Does, DoesAll, Follows, LeavesPrefix, StaysTold};
-ghost use Rattle.voy_meta.specs.Allowed.{has_snapshot, writes};
+ghost use Rattle.voy_meta.specs.Allowed.{allowed_after, has_snapshot, writes};
 ghost use Rattle.voy_meta.specs.Meta.{AddsRecords, MetaStands, meta_name, meta_state};
 ghost use Rattle.voy_meta.specs.Meta.{is_live as meta_live};
 ghost use Rattle.voy_meta.specs.Sides.{leads_to, request_of};
@@ -63,6 +63,7 @@ impl Writer {
         ensures untouched { pending self.old ≡ [] → disk.new ≡ disk.old }
         ensures unchanged { pending self.old ≡ [] → meta.new ≡ meta.old }
         // whatever it answers
+        ensures allowed { IsTrue (allowed_after (meta_state meta.old) (entries_of self.old)) }
         ensures pending { pending self.new ≡ [] }
         ensures role { writer_role self.new ≡ writer_role self.old }
         ensures size { closing_size self.new ≡ closing_size self.old }

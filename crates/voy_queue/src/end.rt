@@ -8,7 +8,7 @@ ghost use Rattle.voy_queue.specs.Putting.{added_to, closes, room_for};
 
 use crate::cutover::is_cutover;
 use std::alloc::{AllocError, Global};
-use voy_event::{CLOSING_LINE, Event, write_line};
+use voy_event::{CLOSING_LINE, Event, MAX_EVENT_LINE_BYTES, write_line};
 use voy_schema::{Bytes, Items, Schema};
 use voy_tables::Spot;
 
@@ -85,8 +85,8 @@ impl Added {
         requires open { self.old.end.closed ≡ false }
         requires small { self.old.end.bytes < OPEN_SEGMENT_BYTES }
         requires lawful { IsLawful schema.now.tables event.now }
-        requires short { length (line_text schema.now.tables event.now) ≤ max_event_line_bytes }
-        ensures { OnOk result (self.new ≡ added_to schema.now.tables max_bytes self.old event.now spot) }
+        ensures short { OnOk result (length (line_text schema.now.tables event.now) ≤ max_event_line_bytes) }
+        ensures added { OnOk result (self.new ≡ added_to schema.now.tables max_bytes self.old event.now spot) }
     {
         let before = self.bytes.len();
         append_line(alloc, schema, event, &mut self.bytes)?;
@@ -105,7 +105,7 @@ impl Added {
     }
 }
 
-/// Appends the line of an event, with LF.
+/// Appends the line of an event, with LF. A line past its limit is want of memory.
 fn append_line(
     alloc: Global,
     schema: &Schema,
@@ -113,9 +113,14 @@ fn append_line(
     to: &mut Bytes,
 ) -> Result<(), AllocError>
     requires { IsWritable schema.now.tables event.now }
-    ensures { OnOk result (to.new ≡ to.old ++ event_bytes schema.now.tables event.now) }
+    ensures short { OnOk result (length (line_text schema.now.tables event.now) ≤ max_event_line_bytes) }
+    ensures line { OnOk result (to.new ≡ to.old ++ event_bytes schema.now.tables event.now) }
 {
+    let before = to.len();
     write_line(alloc, schema, event, to)?;
+    if to.len() - before > MAX_EVENT_LINE_BYTES {
+        return Err(AllocError);
+    }
     to.push(LINE_FEED)
 }
 

@@ -1,4 +1,6 @@
-ghost use Rattle.std.specs.Prelude.{◌≡◌, ◌≤◌, ◌<◌, ℕ, List, [], ◌∷◌, ◌++◌, Option, false, IsTrue, IsFalse, OnErr, OnOk};
+ghost use Rattle.std.specs.Prelude.{◌≡◌, ◌≤◌, ◌<◌, ℕ, List, [], ◌∷◌, ◌++◌, Option, false, length, IsTrue, IsFalse, OnErr, OnOk};
+ghost use Rattle.voy_event.specs.EventLine.{max_event_line_bytes};
+ghost use Rattle.voy_event.specs.LineText.{line_text};
 ghost use Rattle.voy_event.specs.declared.event.Event.{Event};
 ghost use Rattle.voy_meta.specs.declared.limits.TheConstants.{MAX_SEGMENT, OPEN_SEGMENT_BYTES};
 ghost use Rattle.voy_queue.specs.Putting.{AreBehind, added_to, end_after, end_of, pending_after, room_for};
@@ -18,7 +20,7 @@ impl Writer {
     /// Puts an event behind those that were put, with the place of its change in the recording. A new segment begins where the
     /// last is closed; it is closed where its event lines reach the stated number of bytes, or behind a cutover.
     ///
-    /// The lines are gathered in memory, and no disk is called. After an error the writer is given up.
+    /// The lines are gathered in memory, and no disk is called. A line past its limit is want of memory. After an error the writer is given up.
     pub fn put(
         &mut self,
         schema: &Schema,
@@ -29,6 +31,7 @@ impl Writer {
         requires may { MayPut schema.now.tables self.old event.now spot }
         ensures pending { OnOk result (pending self.new ≡
             pending_after schema.now.tables (closing_size self.old) (committed_end self.old) (pending self.old) event.now spot) }
+        ensures short { OnOk result (length (line_text schema.now.tables event.now) ≤ max_event_line_bytes) }
         ensures next { OnOk result (writer_end self.new ≡
             end_after schema.now.tables (closing_size self.old) (writer_end self.old) event.now spot) }
         ensures end { committed_end self.new ≡ committed_end self.old }

@@ -5,6 +5,8 @@ use Rattle.voy_disk.specs.Frames.{OneOf}
 use Rattle.voy_queue.specs.Putting.{end_of}
 use Rattle.voy_queue.specs.PuttingLaws.{IsOpenWithin}
 use Rattle.voy_queue.specs.Writer.{commit_names}
+use Rattle.voy_meta.specs.Meta.{meta_state}
+use Rattle.voy_queue.proofs.AllowedLemmas.{commit_allowed}
 use Rattle.voy_queue.proofs.CommitLoop.{ends_small}
 use Rattle.voy_queue.proofs.writer.Writer.commit.Goals as goal
 
@@ -22,3 +24,18 @@ invariant_of-self-2-clause-room g c =
 
 pub returns-clause-told : goal.returns-clause-told
 returns-clause-told g c = change_stays_told c.in_ok-commit_all.ensures.others (g.met.D.Disk.reads_an_image c.commit_all.new.disk)
+
+pub returns-then-is_empty-clause-allowed : goal.returns-then-is_empty-clause-allowed
+returns-then-is_empty-clause-allowed g c =
+    let old = c.args.self.now in
+    commit_allowed (meta_state c.args.meta.now) old.role old.end old.pending c.requires.stands.version c.requires.recorded old.behind c.requires.snapshot c.requires.may c.requires.asked
+
+pub returns-in_err-commit_all-clause-allowed : goal.returns-in_err-commit_all-clause-allowed
+returns-in_err-commit_all-clause-allowed g c =
+    let old = c.args.self.now in
+    commit_allowed (meta_state c.args.meta.now) old.role old.end old.pending c.requires.stands.version c.requires.recorded old.behind c.requires.snapshot c.requires.may c.requires.asked
+
+pub returns-clause-allowed : goal.returns-clause-allowed
+returns-clause-allowed g c =
+    let old = c.args.self.now in
+    commit_allowed (meta_state c.args.meta.now) old.role old.end old.pending c.requires.stands.version c.requires.recorded old.behind c.requires.snapshot c.requires.may c.requires.asked

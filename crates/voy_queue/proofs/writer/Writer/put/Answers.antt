@@ -12,9 +12,9 @@ invariant_of-self-2 c =
     let schema = c.args.schema.now.tables in
     let put = pending_after schema taken.max_bytes old.end old.pending c.args.event.now c.args.spot in
     let now : c.push.new.self ≡ pending_after c.args.schema.now.tables c.take_open-added.new.self.max_bytes old.end old.pending c.args.event.now c.args.spot =
-    c.in_ok-push.ensures.ok ∙ ap (λ (one : Added). c.take_open-added.new.self.pending ++ one ∷ []) c.in_ok-put.ensures
+    c.in_ok-push.ensures.ok ∙ ap (λ (one : Added). c.take_open-added.new.self.pending ++ one ∷ []) c.in_ok-put.ensures.added
     ∙ c.take_open-added.ensures.put_back c.args.schema.now.tables c.take_open-added.new.self.max_bytes c.args.event.now c.args.spot in
-    let stands = are_behind_law schema old.role taken.max_bytes old.end old.pending c.args.event.now c.args.spot taken.size old.room old.behind c.requires.may in
+    let stands = are_behind_law schema old.role taken.max_bytes old.end old.pending c.args.event.now c.args.spot taken.size old.room old.behind (c.requires.may.follows c.in_ok-put.ensures.short) in
     record {
       behind = subst (λ pending. AreBehind taken.end pending) (sym now) (subst (λ end. AreBehind end put) (sym c.take_open-added.ensures.end) stands);
       size = taken.size;
@@ -25,7 +25,7 @@ pub returns-clause-next : goal.returns-clause-next
 returns-clause-next c =
     let old = c.args.self.now in
     let now : c.push.new.self ≡ pending_after c.args.schema.now.tables c.take_open-added.new.self.max_bytes old.end old.pending c.args.event.now c.args.spot =
-    c.in_ok-push.ensures.ok ∙ ap (λ (one : Added). c.take_open-added.new.self.pending ++ one ∷ []) c.in_ok-put.ensures
+    c.in_ok-push.ensures.ok ∙ ap (λ (one : Added). c.take_open-added.new.self.pending ++ one ∷ []) c.in_ok-put.ensures.added
     ∙ c.take_open-added.ensures.put_back c.args.schema.now.tables c.take_open-added.new.self.max_bytes c.args.event.now c.args.spot in
     let size = c.take_open-added.ensures.size in
     ap (λ end. end_of end c.push.new.self) c.take_open-added.ensures.end ∙ ap (λ pending. end_of old.end pending) now
