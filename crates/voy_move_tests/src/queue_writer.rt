@@ -1,8 +1,4 @@
-ghost use Rattle.std.specs.Prelude.{◌≡◌, ◌≤◌, length, IfOk, IsTrue, OnOk};
-ghost use Rattle.voy_disk.specs.Files.{IfTold};
-ghost use Rattle.voy_event.specs.EventLine.{max_event_line_bytes};
-ghost use Rattle.voy_event.specs.LawfulEvent.{IsWritable};
-ghost use Rattle.voy_event.specs.LineText.{line_text};
+ghost use Rattle.std.specs.Prelude.{◌≡◌, IfOk, IfSome, IsTrue, OnOk};
 ghost use Rattle.voy_meta.specs.Meta.{MetaStands, meta_state};
 ghost use Rattle.voy_meta.specs.Meta.{is_live as meta_live};
 ghost use Rattle.voy_queue.specs.Putting.{recorded_end};
@@ -13,14 +9,15 @@ use std::alloc::{AllocGlobal, Global};
 use std::process::Abort;
 use std::test::Fail;
 use voy_disk::{Disk, MemDisk};
-use voy_event::{Event, MAX_EVENT_LINE_BYTES, read_line, write_line};
+use voy_event::read_line;
 use voy_meta::{MAX_SEGMENT, Meta};
 use voy_queue::{Reader, Writer};
-use voy_schema::{Bytes, Schema};
+use voy_schema::Schema;
 use voy_tables::{Role, Side, Spot};
 use voy_test_disks::{failing_disk, stopping_disk};
 
-const SCHEMA: &str = "{\"tables\":[{\"schema_name\":\"public\",\"table_name\":\"users\",\"columns\":[{\"name\":\"id\",\"type\":\"bigint\"}],\"primary_key\":[\"id\"],\"unique_keys\":[]}]}";
+const SCHEMA: &str =
+    "{\"tables\":[{\"schema_name\":\"public\",\"table_name\":\"users\",\"columns\":[{\"name\":\"id\",\"type\":\"bigint\"}],\"primary_key\":[\"id\"],\"unique_keys\":[]}]}";
 
 /// A segment is closed with its second change.
 const CLOSING_BYTES: u64 = 200;
@@ -31,7 +28,7 @@ const CHANGES: u64 = 5;
 const EVENTS: u64 = CHANGES + 1;
 
 /// How many calls of a disk the whole work takes.
-const CALLS: u64 = 0;
+const CALLS: u64 = 47;
 
 /// How many outages are tried at each call, and how many ways in which a call that fails leaves its file.
 const CHOICES: u64 = 50;
@@ -48,21 +45,13 @@ struct Reached {
 /// The line of an event: of a change, or behind the changes of the cutover.
 fn text_of(alloc: Global, vsn: u64) -> Result<String, Fail> {
     if vsn > CHANGES {
-        return Ok(format!(in alloc; "{{\"exporter_role\":\"source_db_exporter\",\"op\":\"cutover.target\",\"vsn\":{vsn}}}")?);
+        return Ok(format!(in alloc;
+            "{{\"exporter_role\":\"source_db_exporter\",\"op\":\"cutover.target\",\"vsn\":{vsn}}}"
+        )?);
     }
-    Ok(
-        format!(in alloc; "{{\"before_fields\":null,\"exporter_role\":\"source_db_exporter\",\"fields\":{{\"id\":\"{vsn}\"}},\"key\":{{\"id\":\"{vsn}\"}},\"op\":\"c\",\"schema_name\":\"public\",\"table_name\":\"users\",\"vsn\":{vsn}}}")?,
-    )
-}
-
-/// Whether the line of an event is within its limit.
-fn is_short(alloc: Global, schema: &Schema, event: &Event) -> Result<bool, Fail>
-    requires { IsWritable schema.now.tables event.now }
-    ensures { IfOk result (λ short. IsTrue short → length (line_text schema.now.tables event.now) ≤ max_event_line_bytes) }
-{
-    let mut line = Bytes::new(alloc);
-    write_line(alloc, schema, event, &mut line)?;
-    Ok(line.len() <= MAX_EVENT_LINE_BYTES)
+    Ok(format!(in alloc;
+        "{{\"before_fields\":null,\"exporter_role\":\"source_db_exporter\",\"fields\":{{\"id\":\"{vsn}\"}},\"key\":{{\"id\":\"{vsn}\"}},\"op\":\"c\",\"schema_name\":\"public\",\"table_name\":\"users\",\"vsn\":{vsn}}}"
+    )?)
 }
 
 /// Puts the event of this vsn.
@@ -82,9 +71,6 @@ fn put_event(alloc: Global, schema: &Schema, writer: &mut Writer, vsn: u64) -> R
             seq: 0,
         })
     };
-    if !is_short(alloc, schema, &event)? {
-        return Err("an event line that is too long".into());
-    }
     if !writer.takes(&event, spot) {
         return Err("an event that is not taken".into());
     }
@@ -92,20 +78,20 @@ fn put_event(alloc: Global, schema: &Schema, writer: &mut Writer, vsn: u64) -> R
     Ok(())
 }
 
-/// Commits what was put.
-fn commit<D: Disk>(writer: &mut Writer, disk: &mut D, meta: &mut Meta) -> Result<(), Fail>
+/// Commits what was put; false after an error.
+fn commit<D: Disk>(writer: &mut Writer, disk: &mut D, meta: &mut Meta) -> Result<bool, Fail>
     requires live { IsTrue (is_live writer.old) }
     requires role { writer_role writer.old ≡ Role.Source }
     requires writer { WriterStands writer.old (D.files disk.old) }
     requires meta { IsTrue (meta_live meta.old) }
     requires stands { MetaStands meta.old (D.files disk.old) }
     requires recorded { committed_end writer.old ≡ recorded_end (meta_state meta.old) (writer_role writer.old) }
-    ensures live { OnOk result (IsTrue (is_live writer.new)) }
-    ensures role { OnOk result (writer_role writer.new ≡ Role.Source) }
-    ensures writer { OnOk result (WriterStands writer.new (D.files disk.new)) }
-    ensures meta { OnOk result (IsTrue (meta_live meta.new)) }
-    ensures stands { OnOk result (MetaStands meta.new (D.files disk.new)) }
-    ensures recorded { OnOk result (committed_end writer.new ≡ recorded_end (meta_state meta.new) (writer_role writer.new)) }
+    ensures role { writer_role writer.new ≡ Role.Source }
+    ensures live { IfOk result (λ done. IsTrue done → IsTrue (is_live writer.new)) }
+    ensures writer { IfOk result (λ done. IsTrue done → WriterStands writer.new (D.files disk.new)) }
+    ensures meta { IfOk result (λ done. IsTrue done → IsTrue (meta_live meta.new)) }
+    ensures stands { IfOk result (λ done. IsTrue done → MetaStands meta.new (D.files disk.new)) }
+    ensures recorded { IfOk result (λ done. IsTrue done → committed_end writer.new ≡ recorded_end (meta_state meta.new) (writer_role writer.new)) }
 {
     if !meta.state().has_snapshot() || !meta.state().writes(Role::Source) {
         return Err("a state in which nothing may be committed".into());
@@ -113,32 +99,64 @@ fn commit<D: Disk>(writer: &mut Writer, disk: &mut D, meta: &mut Meta) -> Result
     if meta.state().request(Side::Target).is_none() {
         return Err("a cutover that was not asked for".into());
     }
-    writer.commit(disk, meta)?;
-    Ok(())
+    match writer.commit(disk, meta) {
+        Ok(()) => Ok(true),
+        Err(_) => Ok(false),
+    }
 }
 
-/// Opens absent metadata with a snapshot and a request, and a writer, and puts all events in two commits, up to the first error.
+/// Puts three events, from this vsn on.
+fn put_three(alloc: Global, schema: &Schema, writer: &mut Writer, first: u64) -> Result<(), Fail>
+    requires { IsTrue (is_live writer.old) }
+    ensures live { OnOk result (IsTrue (is_live writer.new)) }
+    ensures end { committed_end writer.new ≡ committed_end writer.old }
+    ensures role { writer_role writer.new ≡ writer_role writer.old }
+{
+    put_event(alloc, schema, writer, first)?;
+    put_event(alloc, schema, writer, first.saturating_add(1))?;
+    put_event(alloc, schema, writer, first.saturating_add(2))
+}
+
+/// Metadata with the snapshot and the request; none after an error.
+fn begin<D: Disk>(alloc: Global, disk: &mut D) -> Option<Meta>
+    ensures live { IfSome result (λ meta. IsTrue (meta_live meta)) }
+    ensures stands { IfSome result (λ meta. MetaStands meta (D.files disk.new)) }
+{
+    let Ok(mut meta) = Meta::open(alloc, disk) else {
+        return None;
+    };
+    if !meta.allowed(&SNAPSHOT) {
+        return None;
+    }
+    let Ok(()) = meta.put(disk, SNAPSHOT) else {
+        return None;
+    };
+    let Ok(()) = meta.request_cutover(disk, Side::Target, true) else {
+        return None;
+    };
+    Some(meta)
+}
+
+/// Opens a writer, and puts all events in two commits, up to the first error.
 fn work<D: Disk>(alloc: Global, disk: &mut D, reached: &mut Reached) -> Result<(), Fail> {
     let schema = Schema::read(alloc, SCHEMA.as_bytes())?;
-    let mut meta = Meta::open(alloc, disk)?;
-    if !meta.allowed(&SNAPSHOT) {
-        return Err("a snapshot that is not allowed".into());
-    }
-    meta.put(disk, SNAPSHOT)?;
-    meta.request_cutover(disk, Side::Target, true)?;
-    let mut writer = Writer::open(alloc, disk, &meta, Role::Source, CLOSING_BYTES)?;
-    put_event(alloc, &schema, &mut writer, 1)?;
-    put_event(alloc, &schema, &mut writer, 2)?;
-    put_event(alloc, &schema, &mut writer, 3)?;
+    let Some(mut meta) = begin(alloc, disk) else {
+        return Ok(());
+    };
+    let Ok(mut writer) = Writer::open(alloc, disk, &meta, Role::Source, CLOSING_BYTES) else {
+        return Ok(());
+    };
+    put_three(alloc, &schema, &mut writer, 1)?;
     reached.put = 3;
-    commit(&mut writer, disk, &mut meta)?;
+    if !commit(&mut writer, disk, &mut meta)? {
+        return Ok(());
+    }
     reached.committed = 3;
-    put_event(alloc, &schema, &mut writer, 4)?;
-    put_event(alloc, &schema, &mut writer, 5)?;
-    put_event(alloc, &schema, &mut writer, 6)?;
+    put_three(alloc, &schema, &mut writer, 4)?;
     reached.put = 6;
-    commit(&mut writer, disk, &mut meta)?;
-    reached.committed = 6;
+    if commit(&mut writer, disk, &mut meta)? {
+        reached.committed = 6;
+    }
     Ok(())
 }
 
@@ -186,10 +204,13 @@ fn try_stop(rt: &(impl Abort + AllocGlobal), call: u64, choice: u64) -> Result<(
         put: 0,
     };
     let mut disk = stopping_disk(alloc, call, choice);
-    let _ = work(alloc, &mut disk, &mut reached);
+    work(alloc, &mut disk, &mut reached)?;
     disk.crash(choice)?;
     let count = events_on(alloc, &mut disk)?;
-    assert!(rt; is_so(count, reached), "stopped at call {call}, outage {choice}");
+    assert!(rt;
+        is_so(count, reached),
+        "stopped at call {call}, outage {choice}"
+    );
     open_again(alloc, &mut disk)?;
     let again = events_on(alloc, &mut disk)?;
     assert_eq!(rt; again, count);
@@ -204,9 +225,12 @@ fn try_fault(rt: &(impl Abort + AllocGlobal), call: u64, leaves: u64) -> Result<
         put: 0,
     };
     let mut disk = failing_disk(alloc, call, leaves)?;
-    let _ = work(alloc, &mut disk, &mut reached);
+    work(alloc, &mut disk, &mut reached)?;
     let count = events_on(alloc, &mut disk)?;
-    assert!(rt; is_so(count, reached), "call {call} failed, and left {leaves}");
+    assert!(rt;
+        is_so(count, reached),
+        "call {call} failed, and left {leaves}"
+    );
     Ok(())
 }
 
