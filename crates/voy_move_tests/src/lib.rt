@@ -11,3 +11,5 @@ mod laws;
 mod metadata;
 #[cfg(test)]
 mod outages;
+#[cfg(test)]
+mod queue_writer;
