@@ -31,7 +31,12 @@ pub fn state(alloc: Global, case: &Case) -> Result<String, Trouble> {
 }
 
 /// Takes the records of a row: those of a base, as `=BASE`, or those that it has itself, with commas between.
-pub(crate) fn take_row(alloc: Global, all: &str, row: &str, state: &mut MetaState) -> Result<(), Trouble> {
+pub(crate) fn take_row(
+    alloc: Global,
+    all: &str,
+    row: &str,
+    state: &mut MetaState,
+) -> Result<(), Trouble> {
     match row.strip_prefix("=") {
         Some(name) => take_all(base_of(alloc, all, name)?, state),
         None => take_all(row, state),

@@ -1,8 +1,11 @@
 //! What the reader of the queue takes, beside a parser of the same lines. `bench/queue.py` runs it.
 //!
 //! The standard input is a word, a schema on one line, and event lines. By the word `queue` they are read as the events of a committed
-//! segment, by `json` each is parsed as a JSON document, and by `lines` they are gone through alone. The output is how many there are.
+//! segment, by `json` each is parsed as a JSON document, and by `lines` they are gone through alone. The output is how many there are. By the word
+//! `calls` a writer puts them and commits them together, and the output is how many calls of its disk the commit made.
 #![tactic(auto)]
+
+mod writing;
 
 use serde_json::Value as Json;
 use std::alloc::Global;
@@ -27,19 +30,20 @@ fn main(rt: HostRuntime) -> io::Result<()> {
 /// How many lines there are.
 fn counted(alloc: Global, word: &str, schema: &str, lines: &str) -> Result<String, Trouble> {
     let count = match word {
-        "queue" => events_of(alloc, schema, lines)?,
+        "queue" => events_of(alloc, &schema_of(alloc, schema)?, lines)?,
         "json" => documents_in(alloc, lines)?,
         "lines" => lines.lines().count(),
+        "calls" => {
+            let calls = writing::calls_for(alloc, &schema_of(alloc, schema)?, lines)?;
+            return Ok(format!(in alloc; "{calls}")?);
+        }
         _ => return Err(Trouble::Case("no such word")),
     };
     Ok(format!(in alloc; "{count}")?)
 }
 
 /// How many events a reader of the queue gives, where the lines are a committed segment.
-fn events_of(alloc: Global, schema: &str, lines: &str) -> Result<usize, Trouble> {
-    let Ok(schema) = Schema::read(alloc, schema.as_bytes()) else {
-        return Err(Trouble::Case("no schema"));
-    };
+fn events_of(alloc: Global, schema: &Schema, lines: &str) -> Result<usize, Trouble> {
     let mut disk = SureDisk::new(alloc);
     disk.put_file(&name_of(alloc, "segment.0.ndjson")?, lines.as_bytes())?;
     let most = lines.lines().count();
@@ -49,13 +53,20 @@ fn events_of(alloc: Global, schema: &str, lines: &str) -> Result<usize, Trouble>
     }
     let mut reader = Reader::open(alloc, &state, 0)?;
     for given in 0..most {
-        match reader.next(&mut disk, &schema) {
+        match reader.next(&mut disk, schema) {
             Ok(Some(_)) => {}
             Ok(None) => return Ok(given),
             Err(_) => return Err(Trouble::Apart("a line that is not the event")),
         }
     }
     Ok(most)
+}
+
+fn schema_of(alloc: Global, text: &str) -> Result<Schema, Trouble> {
+    match Schema::read(alloc, text.as_bytes()) {
+        Ok(schema) => Ok(schema),
+        Err(_) => Err(Trouble::Case("no schema")),
+    }
 }
 
 /// One open segment of so many bytes and events is recorded.
