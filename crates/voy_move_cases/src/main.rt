@@ -9,6 +9,7 @@ mod allowed;
 mod files;
 mod payloads;
 mod queue;
+mod queue_writer;
 mod words;
 
 use std::alloc::Global;
@@ -35,6 +36,7 @@ fn came_to(alloc: Global, case: &Case) -> Result<String, Trouble> {
         "allowed" => allowed::allowed(alloc, case),
         "state" => allowed::state(alloc, case),
         "queue" => queue::queue(alloc, case),
+        "writer" => queue_writer::writer(alloc, case),
         _ => Err(Trouble::Case("no such kind")),
     }
 }

@@ -13,18 +13,19 @@ pub fn queue(alloc: Global, case: &Case) -> Result<String, Trouble> {
     let mut state = MetaState::new(alloc);
     take_row(alloc, case.all, records, &mut state)?;
     let mut disk = SureDisk::new(alloc);
-    put_segments(alloc, case, segments, &mut disk)?;
+    put_segments(alloc, case, segments, "> ", &mut disk)?;
     read_all(alloc, case, &state, &mut disk)
 }
 
-/// Makes the files of segments.
-fn put_segments(
+/// Makes the files of segments, each behind the sign and its number.
+pub fn put_segments(
     alloc: Global,
     case: &Case,
     segments: &str,
+    sign: &str,
     disk: &mut SureDisk,
 ) -> Result<(), Trouble> {
-    'segments: for segment in segments.split("> ") {
+    'segments: for segment in segments.split(sign) {
         if segment.is_empty() {
             continue 'segments;
         }
@@ -37,7 +38,7 @@ fn put_segments(
 }
 
 /// Reads to the end, or to the first damage, and once more behind an end.
-fn read_all(
+pub fn read_all(
     alloc: Global,
     case: &Case,
     state: &MetaState,

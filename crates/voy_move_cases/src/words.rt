@@ -94,7 +94,7 @@ fn side_of(text: &str) -> Result<Side, Trouble> {
     }
 }
 
-fn role_of(text: &str) -> Result<Role, Trouble> {
+pub fn role_of(text: &str) -> Result<Role, Trouble> {
     match text {
         "target" => Ok(Role::Target),
         "source" => Ok(Role::Source),
@@ -103,7 +103,7 @@ fn role_of(text: &str) -> Result<Role, Trouble> {
 }
 
 /// A commit and a place within it, as `5.2`, or `-` for none.
-fn spot_of(text: &str) -> Result<Option<Spot>, Trouble> {
+pub fn spot_of(text: &str) -> Result<Option<Spot>, Trouble> {
     if text == "-" {
         return Ok(None);
     }
