@@ -60,7 +60,7 @@ module _ (all : List Added) (i : ℕ) (one : Added) (within : i < length all) (i
   pub done_at : take (i + 1) all ≡ take i all ++ one ∷ []
   done_at = take_more all i one within ∙ ap (λ (x : Added). take i all ++ x ∷ []) (sym is)
 
-  all_at : take i all ++ one ∷ drop (i + 1) all ≡ all
+  pub all_at : take i all ++ one ∷ drop (i + 1) all ≡ all
   all_at = ap (λ left. take i all ++ left) (sym left_at) ∙ take-append-drop i all
 
   pub state_more : (role : Role) (old now new : MetaState) → now ≡ state_after old (map (entry_of role) (take i all)) → new ≡ after_record now (entry_of role one)

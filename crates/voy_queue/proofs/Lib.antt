@@ -17,6 +17,7 @@ mod RecordLemmas
 mod SegmentLemmas
 mod ShelfLemmas
 mod ShelfReadLemmas
+mod StandLemmas
 mod StepLemmas
 mod WholeLemmas
 mod WrittenLemmas

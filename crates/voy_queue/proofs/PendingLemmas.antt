@@ -1,5 +1,5 @@
 -- What a writer's put makes of what is pending, by its last segment.
-use Rattle.std.proofs.Common.{◌≡◌, ◌≤◌, ◌<◌, ◌+◌, ◌-◌, ℕ, Bool, true, false, List, [], ◌∷◌, ◌++◌, Option, Some, length, refl, sym, ap, ◌∙◌, arith}
+use Rattle.std.proofs.Common.{if◌then◌else◌, ◌≡◌, ◌≤◌, ◌<◌, ◌+◌, ◌-◌, ℕ, Bool, true, false, List, [], ◌∷◌, ◌++◌, Option, Some, length, refl, sym, ap, ◌∙◌, arith}
 use Rattle.std.specs.Prelude.{slice_get}
 use native.Mathlib.Numerals.{unary_clauses}
 use Rattle.std.proofs.lemmas.Bool.{ltb-true}
@@ -11,7 +11,7 @@ use Rattle.voy_event.specs.declared.event.Event.{Event}
 use Rattle.voy_queue.specs.Lines.{closing_bytes, event_bytes}
 use Rattle.voy_meta.specs.Allowed.{is_within}
 use Rattle.voy_meta.specs.declared.limits.TheConstants.{OPEN_SEGMENT_BYTES}
-use Rattle.voy_queue.specs.Putting.{AreBehind, IsBehind, added_to, begun, end_of, pending_after, room_for}
+use Rattle.voy_queue.specs.Putting.{AreBehind, AreShut, IsBehind, added_to, begun, end_of, pending_after, room_for}
 use Rattle.voy_queue.specs.declared.end.Added.{Added}
 use Rattle.voy_queue.specs.declared.end.End.{End}
 use Rattle.voy_schema.specs.declared.table.Table.{Table}
@@ -84,3 +84,29 @@ pub lines_are_short : (schema : List Table) (event : Event) (old : List ℕ) (cl
 lines_are_short schema event old closed short =
     let few = closing_is_short closed in
     grind (arith, common_steps, short, few)
+
+-- ---- all but the last are closed
+
+pub shut_on : (one : Added) (rest : List Added) → one.end.closed ≡ true → AreShut rest → AreShut (one ∷ rest)
+shut_on one [] is rest = tt
+shut_on one (next ∷ more) is rest = (is, rest)
+
+pub shut_behind : (one : Added) (rest : List Added) → AreShut (one ∷ rest) → AreShut rest
+shut_behind one [] all = tt
+shut_behind one (next ∷ more) all = all.1
+
+pub front_shut : (front : List Added) (one : Added) → AreShut (front ++ one ∷ []) → AreShut front
+front_shut [] one all = tt
+front_shut (a ∷ []) one all = tt
+front_shut (a ∷ b ∷ front) one all = (all.0, front_shut (b ∷ front) one all.1)
+
+pub shut_after : (schema : List Table) (max_bytes : ℕ) (end : End) (pending : List Added) (event : Event) (spot : Option Spot) → AreShut pending
+    → AreShut (pending_after schema max_bytes end pending event spot)
+shut_after schema max_bytes end [] event spot all = tt
+shut_after schema max_bytes end (one ∷ next ∷ more) event spot all =
+    shut_on one (pending_after schema max_bytes one.end (next ∷ more) event spot) all.0 (shut_after schema max_bytes one.end (next ∷ more) event spot all.1)
+shut_after schema max_bytes end (one ∷ []) event spot all = by one.end.closed refl where
+  by : (closed : Bool) → one.end.closed ≡ closed
+      → AreShut (if closed then one ∷ begun schema max_bytes one.end event spot ∷ [] else added_to schema max_bytes one event spot ∷ [])
+  by true is = (is, tt)
+  by false is = tt

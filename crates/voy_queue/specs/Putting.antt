@@ -140,3 +140,9 @@ pub record IsBehind (end : End) (one : Added) : Type 0 where
 abbrev pub AreBehind : End → List Added → Type 0
 AreBehind end [] = Unit {0}
 AreBehind end (one ∷ more) = IsBehind end one × AreBehind one.end more
+
+-- all but the last of what was put are closed
+abbrev pub AreShut : List Added → Type 0
+AreShut [] = Unit {0}
+AreShut (one ∷ []) = Unit {0}
+AreShut (one ∷ next ∷ more) = (one.end.closed ≡ true) × AreShut (next ∷ more)

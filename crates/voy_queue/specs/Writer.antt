@@ -1,5 +1,5 @@
 -- What contracts see of a writer, and what it asks of the disk that it is lent.
-use Rattle.std.specs.Prelude.{◌≡◌, ◌≢◌, ◌≤◌, ℕ, Bool, List, ◌∷◌, Option, Some, length, map}
+use Rattle.std.specs.Prelude.{◌≡◌, ◌≢◌, ◌≤◌, ℕ, Bool, List, [], ◌∷◌, Option, Some, length, map}
 use Rattle.voy_disk.specs.File.{settled}
 use Rattle.voy_disk.specs.Files.{Files, IfTold}
 use Rattle.voy_disk.specs.Fronts.{HasFront}
@@ -65,6 +65,11 @@ pub record StandsIn (end : End) (files : Files) : Type 0 where
   pub content : List ℕ
   pub size : length content ≡ end.bytes
   pub file : end.bytes ≢ 0 → files (segment_name end.number) ≡ Some (settled content)
+
+-- the file of each of these segments has just the bytes up to its end, all safe
+abbrev pub AllStand : List Added → Files → Type 0
+AllStand [] files = Unit {0}
+AllStand (one ∷ more) files = StandsIn one.end files × AllStand more files
 
 abbrev pub WriterStands : Writer → Option Files → Type 0
 WriterStands writer files = IfTold files (StandsIn writer.end)

@@ -14,9 +14,9 @@ ghost use Rattle.voy_meta.specs.State.{after_record, state_after};
 ghost use Rattle.voy_meta.specs.declared.limits.TheConstants.{MAX_SEGMENT_BYTES};
 ghost use Rattle.voy_queue.specs.Commit.{IsSafeBehind, IsSafeTo, names_of, start_of};
 ghost use Rattle.voy_queue.specs.Names.{segment_name};
-ghost use Rattle.voy_queue.specs.Putting.{AreBehind, IsBehind, commit_of, end_of, entry_of, recorded_end};
+ghost use Rattle.voy_queue.specs.Putting.{AreBehind, AreShut, IsBehind, commit_of, end_of, entry_of, recorded_end};
 ghost use Rattle.voy_queue.specs.Shelf.{shelf_after, shelf_in};
-ghost use Rattle.voy_queue.specs.Writer.{StandsIn, WriterStands, closing_size, commit_names, committed_end, commits_of, entries_of, is_live, pending, writer_end, writer_role};
+ghost use Rattle.voy_queue.specs.Writer.{AllStand, StandsIn, WriterStands, closing_size, commit_names, committed_end, commits_of, entries_of, is_live, pending, writer_end, writer_role};
 
 use crate::asking::end_of;
 use crate::end::Added;
@@ -53,6 +53,7 @@ impl Writer {
         ensures end { OnOk result (committed_end self.new ≡ writer_end self.old) }
         ensures recorded { OnOk result (committed_end self.new ≡ recorded_end (meta_state meta.new) (writer_role self.new)) }
         ensures writer { OnOk result (WriterStands self.new (D.files disk.new)) }
+        ensures files { OnOk result (IfTold (D.files disk.new) (AllStand (pending self.old))) }
         ensures stands { OnOk result (MetaStands meta.new (D.files disk.new)) }
         ensures live { OnOk result (IsTrue (is_live self.new)) }
         ensures meta { OnOk result (IsTrue (meta_live meta.new)) }
@@ -102,12 +103,14 @@ fn commit_all<D: Disk>(
     requires may { IsTrue (writes (meta_state meta.old) role) }
     requires asked { (end_of (recorded_end (meta_state meta.old) role) pending.now).ended ≡ true → IsTrue (is_some (request_of (leads_to role) (meta_state meta.old))) }
     requires behind { AreBehind (recorded_end (meta_state meta.old) role) pending.now }
+    requires shut { AreShut pending.now }
     requires file { IfTold (D.files disk.old) (StandsIn (recorded_end (meta_state meta.old) role)) }
     ensures state { OnOk result (meta_state meta.new ≡ state_after (meta_state meta.old) (map (entry_of role) pending.now)) }
     ensures end { OnOk result (recorded_end (meta_state meta.new) role ≡ end_of (recorded_end (meta_state meta.old) role) pending.now) }
     ensures stands { OnOk result (MetaStands meta.new (D.files disk.new)) }
     ensures live { OnOk result (IsTrue (meta_live meta.new)) }
     ensures file { OnOk result (IfTold (D.files disk.new) (StandsIn (recorded_end (meta_state meta.new) role))) }
+    ensures files { OnOk result (IfTold (D.files disk.new) (AllStand pending.now)) }
     ensures all { DoesAll (Does shelf_in shelf_after) (map (commit_of role) pending.now) result (ImagesOf (D.files disk.old)) (ImagesOf (D.files disk.new)) }
     ensures prefix { LeavesPrefix (Does shelf_in shelf_after) (map (commit_of role) pending.now) (ImagesOf (D.files disk.old)) (ImagesOf (D.files disk.new)) }
     ensures others { Change (KeepsBeside (OneOf (names_of pending.now))) (D.files disk.old) (D.files disk.new) }

@@ -3,7 +3,7 @@ ghost use Rattle.voy_event.specs.EventLine.{max_event_line_bytes};
 ghost use Rattle.voy_event.specs.LineText.{line_text};
 ghost use Rattle.voy_event.specs.declared.event.Event.{Event};
 ghost use Rattle.voy_meta.specs.declared.limits.TheConstants.{MAX_SEGMENT, OPEN_SEGMENT_BYTES};
-ghost use Rattle.voy_queue.specs.Putting.{AreBehind, added_to, end_after, end_of, pending_after, room_for};
+ghost use Rattle.voy_queue.specs.Putting.{AreBehind, AreShut, added_to, end_after, end_of, pending_after, room_for};
 ghost use Rattle.voy_queue.specs.Writer.{MayPut, closing_size, committed_end, is_live, pending, writer_end, writer_role};
 ghost use Rattle.voy_schema.specs.declared.table.Table.{Table};
 ghost use Rattle.voy_tables.specs.declared.change.Spot.{Spot};
@@ -71,12 +71,14 @@ impl Writer {
 fn take_last(alloc: Global, end: End, pending: &mut Vec<Added>) -> Added
     requires number { (room_for (end_of end pending.old.items)).number ≤ MAX_SEGMENT }
     requires behind { AreBehind end pending.old.items }
+    requires shut { AreShut pending.old.items }
     requires room { end.closed ≡ false → end.bytes < OPEN_SEGMENT_BYTES }
     ensures put_back { (schema : List Table) (max_bytes : ℕ) (event : Event) (spot : Option Spot) →
         pending.new.items ++ added_to schema max_bytes result event spot ∷ [] ≡ pending_after schema max_bytes end pending.old.items event spot }
     ensures open { result.end.closed ≡ false }
     ensures small { result.end.bytes < OPEN_SEGMENT_BYTES }
     ensures behind { AreBehind end pending.new.items }
+    ensures shut { AreShut pending.new.items }
 {
     match pending.last() {
         None => Added::at(alloc, end.room()),

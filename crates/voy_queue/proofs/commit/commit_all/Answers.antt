@@ -1,14 +1,15 @@
-use Rattle.std.proofs.Common.{◌≡◌, ◌∙◌, ◌+◌, arith, refl, sym, ap, subst, drop}
+use Rattle.std.proofs.Common.{take, ◌≡◌, ◌∙◌, ◌+◌, arith, refl, sym, ap, subst, drop}
 use Rattle.voy_disk.specs.FrameLaws.{files_beside_nothing}
 use Rattle.voy_disk.specs.Frames.{OneOf}
 use Rattle.voy_disk.specs.StepLaws.{follows_nothing, follows_weaker}
 use Rattle.voy_disk.specs.Files.{IfTold}
 use Rattle.voy_meta.specs.Meta.{meta_state}
 use Rattle.voy_queue.specs.Commit.{names_of}
-use Rattle.voy_queue.specs.Putting.{AreBehind, recorded_end}
+use Rattle.voy_queue.specs.Putting.{AreBehind, AreShut, recorded_end}
 use Rattle.voy_queue.specs.Shelf.{shelf_in}
-use Rattle.voy_queue.specs.Writer.{StandsIn}
-use Rattle.voy_queue.proofs.CommitLoop.{ended_now, asked_on, behind_at, end_more, images_more, may_on, others_more, state_more, stopped_at}
+use Rattle.voy_queue.specs.Writer.{AllStand, StandsIn}
+use Rattle.voy_queue.proofs.CommitLoop.{all_at, done_at, ended_now, asked_on, behind_at, end_more, images_more, may_on, others_more, state_more, stopped_at}
+use Rattle.voy_queue.proofs.StandLemmas.{all_stand}
 use Rattle.voy_queue.proofs.RecordLemmas.{end_recorded, snapshot_stays}
 use Rattle.voy_queue.proofs.commit.commit_all.Goals as goal
 
@@ -23,6 +24,7 @@ loop-one-init g c = record {
   stands = c.requires.stands;
   live = c.requires.live;
   file = c.requires.file;
+  files = λ fs told. tt;
   images = follows_weaker (follows_nothing _) (λ i j same. ap shelf_in same);
   others = files_beside_nothing (OneOf (names_of c.args.pending.now)) _ _ refl;
   later = omega arith;
@@ -71,6 +73,9 @@ loop-one-preserved g c =
       stands = done.stands;
       live = done.live;
       file = subst (λ end. IfTold (g.D.Disk.files c.commit_one.new.disk) (StandsIn end)) (sym ends) done.file;
+      files = subst (λ done. IfTold (g.D.Disk.files c.commit_one.new.disk) (AllStand done)) (sym (done_at all i one within is))
+          (all_stand (recorded_end old role) (take i all) one (drop (i + 1) all) _ _ (subst (λ pending. AreBehind (recorded_end old role) pending) (sym (all_at all i one within is)) c.requires.behind)
+          (subst AreShut (sym (all_at all i one within is)) c.requires.shut) done.others before.files done.file);
       images = images_more all i one within is role before.images done.all;
       others = others_more all i one within is before.others done.others;
       later = omega (arith, before.later, done.cause.later);

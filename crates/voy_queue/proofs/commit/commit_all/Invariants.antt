@@ -11,7 +11,7 @@ use Rattle.voy_meta.specs.State.{state_after}
 use Rattle.voy_queue.specs.Commit.{names_of}
 use Rattle.voy_queue.specs.Putting.{AreBehind, commit_of, end_of, entry_of, recorded_end}
 use Rattle.voy_queue.specs.Shelf.{shelf_after, shelf_in}
-use Rattle.voy_queue.specs.Writer.{StandsIn}
+use Rattle.voy_queue.specs.Writer.{AllStand, StandsIn}
 use Rattle.voy_queue.proofs.commit.commit_all.Given as goal
 
 abbrev pub invariant-loop-one : goal.invariant-loop-one
@@ -30,6 +30,7 @@ invariant-loop-one g l =
       stands : MetaStands l.meta (g.D.Disk.files l.disk);
       live : IsTrue (is_live l.meta);
       file : IfTold (g.D.Disk.files l.disk) (StandsIn (recorded_end now l.role));
+      files : IfTold (g.D.Disk.files l.disk) (AllStand done);
       images : Follows (Does shelf_in shelf_after (map (commit_of l.role) done)) (ImagesOf (g.D.Disk.files l.fn.disk)) (ImagesOf (g.D.Disk.files l.disk));
       others : Change (KeepsBeside (OneOf (names_of l.pending))) (g.D.Disk.files l.fn.disk) (g.D.Disk.files l.disk);
       later : g.D.Disk.faults l.fn.disk ≤ g.D.Disk.faults l.disk;

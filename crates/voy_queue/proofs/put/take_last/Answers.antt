@@ -1,8 +1,8 @@
 use Rattle.std.proofs.Common.{◌≡◌, ◌≤◌, [], ◌∷◌, ◌++◌, Some, false, ap, refl, sym, ◌∙◌, subst}
 use Rattle.voy_meta.specs.declared.limits.TheConstants.{MAX_SEGMENT}
-use Rattle.voy_queue.specs.Putting.{AreBehind, room_for}
+use Rattle.voy_queue.specs.Putting.{AreBehind, AreShut, room_for}
 use Rattle.voy_queue.specs.declared.end.End.{End}
-use Rattle.voy_queue.proofs.PendingLemmas.{last_of, last_end, open_is_small, last_behind, into_open, in_room, behind_closed, front_behind, last_is_behind}
+use Rattle.voy_queue.proofs.PendingLemmas.{last_of, last_end, open_is_small, last_behind, into_open, in_room, behind_closed, front_behind, front_shut, last_is_behind}
 use Rattle.voy_queue.proofs.put.take_last.Goals as goal
 
 -- the last segment, as the list has it
@@ -48,3 +48,7 @@ returns-in-Some-pop-clause-small c =
 -- src/put.rt:66:1
 pub returns-in-Some-pop-clause-behind : goal.returns-in-Some-pop-clause-behind
 returns-in-Some-pop-clause-behind c = front_behind c.args.end c.pop.new.self.items c.in-Some-pop.last (behind_taken c)
+
+pub returns-in-Some-pop-clause-shut : goal.returns-in-Some-pop-clause-shut
+returns-in-Some-pop-clause-shut c =
+    front_shut c.pop.new.self.items c.in-Some-pop.last (subst AreShut c.in-Some-pop.ensures.items c.requires.shut)

@@ -1,5 +1,6 @@
 use Rattle.std.proofs.Common.{◌≡◌, ◌∙◌, ap, subst, sym, [], ◌∷◌, ◌++◌}
-use Rattle.voy_queue.specs.Putting.{AreBehind, end_after, end_of, pending_after}
+use Rattle.voy_queue.proofs.PendingLemmas.{shut_after}
+use Rattle.voy_queue.specs.Putting.{AreBehind, AreShut, end_after, end_of, pending_after}
 use Rattle.voy_queue.specs.PuttingLaws.{are_behind_law, ends_with_put}
 use Rattle.voy_queue.specs.declared.end.Added.{Added}
 use Rattle.voy_queue.proofs.writer.Writer.put.Goals as goal
@@ -17,6 +18,7 @@ invariant_of-self-2 c =
     let stands = are_behind_law schema old.role taken.max_bytes old.end old.pending c.args.event.now c.args.spot taken.size old.room old.behind (c.requires.may.follows c.in_ok-put.ensures.short) in
     record {
       behind = subst (λ pending. AreBehind taken.end pending) (sym now) (subst (λ end. AreBehind end put) (sym c.take_open-added.ensures.end) stands);
+      shut = subst AreShut (sym now) (shut_after schema taken.max_bytes old.end old.pending c.args.event.now c.args.spot old.shut);
       size = taken.size;
       room = taken.room;
     }
