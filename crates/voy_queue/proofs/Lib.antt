@@ -2,6 +2,8 @@ mod AllowedLemmas
 mod AskingLemmas
 mod CommitLemmas
 mod CommitLoop
+mod CountLemmas
+mod FeedLemmas
 mod FirstLemmas
 mod FoundLemmas
 mod GrowingLemmas

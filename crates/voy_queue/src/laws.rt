@@ -1,4 +1,4 @@
-ghost use Rattle.voy_queue.specs.Laws.{FirstPartIsPut, ShelvesAreRead, WrittenReadsBack};
+ghost use Rattle.voy_queue.specs.Laws.{EventsAreCounted, FirstPartIsPut, LinesAreCounted, ShelvesAreRead, WrittenReadsBack};
 ghost use Rattle.voy_queue.specs.PuttingLaws.{AreBehindLaw, EndsWithPut};
 
 use voy_event::{events_read_back, lines_stand_in_segments};
@@ -28,4 +28,15 @@ pub fn written_reads_back()
 /// Law: the queue of a shelf is that of the image that it is taken from. There is nothing to run.
 pub fn shelves_are_read()
     ensures { ShelvesAreRead }
+{}
+
+/// Law: a queue that reads whole has the vsns from 1 on, in order, up to the last that is recorded. There is nothing to run.
+pub fn events_are_counted()
+    ensures { EventsAreCounted }
+{}
+
+/// Law: where a queue reads whole, its segments have all their committed bytes, and a line for each event and for the closing. There is nothing
+/// to run.
+pub fn lines_are_counted()
+    ensures { LinesAreCounted }
 {}

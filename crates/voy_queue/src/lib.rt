@@ -27,7 +27,9 @@ mod writer_open;
 
 pub use end::{Added, End, Pending};
 pub use error::QueueError;
-pub use laws::{puts_are_behind, shelves_are_read, written_reads_back};
+pub use laws::{
+    events_are_counted, lines_are_counted, puts_are_behind, shelves_are_read, written_reads_back,
+};
 pub use limits::MAX_SEGMENT_BYTES;
 pub use reader::Reader;
 pub use writer::Writer;
