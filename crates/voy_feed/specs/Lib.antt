@@ -1,0 +1,4 @@
+pub mod Kept
+pub mod Feed
+pub mod Errors
+pub mod KeptLaws
