@@ -1,0 +1,54 @@
+-- What contracts say of the calls of an export.
+use Rattle.std.specs.Prelude.{◌≡◌, ◌⊎◌, ℕ, List, [], ◌∷◌, ◌++◌, Option, Some, None, Result, Ok, Err, filter, length, map}
+use Rattle.std.specs.List.{sum}
+use Rattle.voy_disk.specs.Images.{Image}
+use Rattle.voy_disk.specs.Steps.{after_all}
+use Rattle.voy_event.specs.Events.{is_change}
+use Rattle.voy_export.specs.Ends.{Stop, finished, past, refused}
+use Rattle.voy_export.specs.Names.{snapshot_file}
+use Rattle.voy_export.specs.Steps.{AddsSnapshot, ExportStep}
+use Rattle.voy_export.specs.declared.error.ExportError.{ExportError}
+use Rattle.voy_export.specs.declared.error.ExportError.TheVariants.{Fault, Limit, NoMemory, Refused}
+use Rattle.voy_meta.specs.Meta.{meta_name}
+use Rattle.voy_meta.specs.declared.record.MetaRecord.{MetaRecord}
+use Rattle.voy_meta.specs.declared.record.MetaRecord.TheVariants.{Snapshot}
+use Rattle.voy_meta.specs.declared.state.SnapshotState.{SnapshotState}
+use Rattle.voy_queue.specs.Names.{segment_name}
+use Rattle.voy_queue.specs.Putting.{Put}
+use Rattle.voy_schema.specs.declared.table.Table.{Table}
+use Rattle.voy_schema.specs.declared.value.Value.{Value}
+use Rattle.voy_tables.specs.RowText.{row_lines}
+
+-- an error names what ended the export; a fault and want of memory say nothing of it
+abbrev pub Tells : Stop → ExportError → Type 0
+Tells stop (Refused file line why) = stop ≡ refused file line why
+Tells stop (Limit file line) = stop ≡ past file line
+Tells stop (Fault which) = Unit {0}
+Tells stop NoMemory = Unit {0}
+
+-- the call came to its end: it did all, or named what it was refused. A fault or want of memory cut it short
+abbrev pub AtEnd : {T : Type 0} → Result T ExportError → Type 0 → Type 0
+AtEnd (Ok value) P = P
+AtEnd (Err (Refused file line why)) P = P
+AtEnd (Err (Limit file line)) P = P
+AtEnd (Err (Fault which)) P = Unit {0}
+AtEnd (Err NoMemory) P = Unit {0}
+
+-- the files of the queue: the metadata and the segments
+abbrev pub IsQueueFile : List ℕ → Type 0
+IsQueueFile name = (name ≡ meta_name) ⊎ ((number : ℕ) × (name ≡ segment_name number))
+
+-- how many of these are changes
+abbrev pub count_changes : List Put → ℕ
+count_changes [] = 0
+count_changes (put ∷ puts) = changes_of put + count_changes puts
+
+-- the record of a table's snapshot with these rows, of so many tables
+abbrev pub snapshot_entry : (tables number : ℕ) → List (List Value) → MetaRecord
+snapshot_entry tables number rows = Snapshot number tables (length (row_lines rows)) (length rows)
+
+-- the snapshots of the tables from this number on, as steps
+abbrev pub snapshot_steps : (tables number : ℕ) → List (List (List Value)) → List ExportStep
+snapshot_steps tables number [] = []
+snapshot_steps tables number (rows ∷ more) =
+    AddsSnapshot (snapshot_entry tables number rows) (row_lines rows) ∷ snapshot_steps tables (suc number) more
