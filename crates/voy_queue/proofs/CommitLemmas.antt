@@ -3,6 +3,7 @@ use Rattle.std.proofs.Common.{◌≡◌, ◌≤◌, ◌+◌, inl, inr, ℕ, Bool
 use Rattle.std.specs.Prelude.{OnOk}
 use Rattle.std.proofs.lemmas.Bool.{leb-true, ltb-true}
 use Rattle.std.proofs.lemmas.List.{length-append}
+use Rattle.voy_append.specs.Appending.{IsSafeBehind, IsSafeTo}
 use Rattle.voy_disk.specs.Calls.{Change}
 use Rattle.voy_disk.specs.ChangeLaws.{at_new}
 use Rattle.voy_disk.specs.File.{settled}
@@ -21,7 +22,7 @@ use Rattle.voy_meta.specs.Allowed.{is_within}
 use Rattle.voy_meta.specs.declared.limits.TheConstants.{MAX_SEGMENT_BYTES, OPEN_SEGMENT_BYTES}
 use Rattle.voy_meta.specs.declared.meta.Meta.{Meta}
 use Rattle.voy_meta.specs.declared.state.MetaState.{MetaState}
-use Rattle.voy_queue.specs.Commit.{IsSafeBehind, IsSafeTo, start_of}
+use Rattle.voy_queue.specs.Commit.{start_of}
 use Rattle.voy_queue.specs.Names.{segment_name}
 use Rattle.voy_queue.specs.Putting.{IsBehind, commit_of, entry_of, recorded_end, room_for}
 use Rattle.voy_queue.specs.Shelf.{shelf_after, shelf_in}

@@ -6,7 +6,6 @@ mod CountLemmas
 mod FeedLemmas
 mod FirstLemmas
 mod FoundLemmas
-mod GrowingLemmas
 mod HeldLemmas
 mod LineLemmas
 mod MadeLemmas

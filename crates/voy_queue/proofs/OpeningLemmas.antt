@@ -24,7 +24,7 @@ use Rattle.voy_meta.specs.declared.limits.TheConstants.{MAX_SEGMENT}
 use Rattle.voy_meta.specs.declared.meta.Meta.{Meta}
 use Rattle.voy_meta.specs.declared.state.MetaState.{MetaState}
 use Rattle.voy_meta.specs.declared.state.SegmentState.{SegmentState}
-use Rattle.voy_queue.specs.Commit.{IsSafeTo}
+use Rattle.voy_append.specs.Appending.{IsSafeTo}
 use Rattle.voy_queue.specs.Names.{segment_name}
 use Rattle.voy_queue.specs.Putting.{end_at, recorded_end}
 use Rattle.voy_queue.specs.PuttingLaws.{IsOpenWithin}

@@ -1,4 +1,5 @@
 ghost use Rattle.std.specs.Prelude.{◌≡◌, ◌≢◌, ◌≤◌, [], ◌∷◌, is_some, length, map, Ok, IfErr, IsFalse, IsTrue, OnErr, OnOk, true};
+ghost use Rattle.voy_append.specs.Appending.{IsSafeBehind, IsSafeTo};
 ghost use Rattle.voy_disk.specs.Calls.{Change};
 ghost use Rattle.voy_disk.specs.Faults.{HasCause};
 ghost use Rattle.voy_disk.specs.Files.{IfTold};
@@ -12,7 +13,7 @@ ghost use Rattle.voy_meta.specs.Meta.{is_live as meta_live};
 ghost use Rattle.voy_meta.specs.Sides.{leads_to, request_of};
 ghost use Rattle.voy_meta.specs.State.{after_record, state_after};
 ghost use Rattle.voy_meta.specs.declared.limits.TheConstants.{MAX_SEGMENT_BYTES};
-ghost use Rattle.voy_queue.specs.Commit.{IsSafeBehind, IsSafeTo, names_of, start_of};
+ghost use Rattle.voy_queue.specs.Commit.{names_of, start_of};
 ghost use Rattle.voy_queue.specs.Names.{segment_name};
 ghost use Rattle.voy_queue.specs.Putting.{AreBehind, AreShut, IsBehind, commit_of, end_of, entry_of, recorded_end};
 ghost use Rattle.voy_queue.specs.Shelf.{shelf_after, shelf_in};
@@ -21,11 +22,11 @@ ghost use Rattle.voy_queue.specs.Writer.{AllStand, StandsIn, WriterStands, closi
 use crate::asking::end_of;
 use crate::end::Added;
 use crate::error::QueueError;
-use crate::growing::write_segment;
 use crate::names::segment_file;
 use crate::writer::Writer;
 use std::alloc::Global;
 use std::mem::replace;
+use voy_append::append_bytes;
 use voy_disk::Disk;
 use voy_meta::{Meta, MetaError, MetaRecord};
 use voy_schema::Items;
@@ -169,7 +170,7 @@ fn add_bytes<D: Disk>(alloc: Global, disk: &mut D, one: &Added) -> Result<(), Qu
 {
     let name = segment_file(alloc, one.end.number)?;
     let start = one.end.bytes - one.bytes.len() as u64;
-    write_segment(disk, &name, start, one.bytes.as_slice())?;
+    append_bytes(disk, &name, start, one.bytes.as_slice())?;
     Ok(())
 }
 

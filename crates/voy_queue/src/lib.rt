@@ -10,7 +10,6 @@ mod commit;
 mod cutover;
 mod end;
 mod error;
-mod growing;
 mod last_line;
 mod laws;
 mod limits;

@@ -1,5 +1,2 @@
 /// The most bytes that a writer may be told to close a segment at.
 pub const MAX_SEGMENT_BYTES: u64 = 1_073_741_824;
-
-/// The most bytes that a writer writes by one call of its disk.
-pub(crate) const WRITE_BYTES: usize = 1_048_576;

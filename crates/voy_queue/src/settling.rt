@@ -1,4 +1,5 @@
 ghost use Rattle.std.specs.Prelude.{◌≡◌, ◌≢◌, ◌≤◌, ◌<◌, false, length, nat_le, IfErr, IfOk, OnOk};
+ghost use Rattle.voy_append.specs.Appending.{IsSafeTo};
 ghost use Rattle.voy_disk.specs.Calls.{Change, IsThereWith};
 ghost use Rattle.voy_disk.specs.Faults.{HasCause};
 ghost use Rattle.voy_disk.specs.Files.{IfTold, bytes_now};
@@ -6,7 +7,6 @@ ghost use Rattle.voy_disk.specs.Frames.{KeepsOtherFiles};
 ghost use Rattle.voy_disk.specs.Fronts.{HasFront, KeepsFront};
 ghost use Rattle.voy_disk.specs.Images.{ImagesOf};
 ghost use Rattle.voy_disk.specs.Steps.{Follows};
-ghost use Rattle.voy_queue.specs.Commit.{IsSafeTo};
 ghost use Rattle.voy_queue.specs.Names.{segment_name};
 ghost use Rattle.voy_queue.specs.Opening.{IsShort, is_short};
 ghost use Rattle.voy_queue.specs.Writer.{EndIsSafe, StandsIn};

@@ -1,7 +1,7 @@
 use Rattle.std.proofs.Common.{Err, Ok, arith}
 use Rattle.voy_disk.specs.ChangeLaws.{change_weaker, others_after}
-use Rattle.voy_queue.proofs.GrowingLemmas.{behind_there, piece_keeps, piece_on, piece_reads}
-use Rattle.voy_queue.proofs.growing.write_piece.Goals as goal
+use Rattle.voy_append.proofs.AppendingLemmas.{behind_there, piece_keeps, piece_on, piece_reads}
+use Rattle.voy_append.proofs.appending.write_piece.Goals as goal
 
 pub write_at-requires-clause-there : goal.write_at-requires-clause-there
 write_at-requires-clause-there g c = behind_there c.args.name.now c.args.start c.args.done c.args.bytes.now (g.D.Disk.files c.args.disk.now) c.requires.more c.requires.ready

@@ -1,7 +1,7 @@
 use Rattle.std.proofs.Common.{Err}
 use Rattle.voy_disk.specs.ChangeLaws.{change_weaker, others_after, others_after_create, others_on, others_still}
-use Rattle.voy_queue.proofs.GrowingLemmas.{cut_reads, no_front_kept, safe_reads}
-use Rattle.voy_queue.proofs.growing.begin_segment.Goals as goal
+use Rattle.voy_append.proofs.AppendingLemmas.{cut_reads, no_front_kept, safe_reads}
+use Rattle.voy_append.proofs.appending.begin_file.Goals as goal
 
 pub returns-then-start-ne0-clause-ready : goal.returns-then-start-ne0-clause-ready
 returns-then-start-ne0-clause-ready g c = safe_reads c.args.name.now c.args.start (g.D.Disk.files c.args.disk.now) c.if-start-ne0.true c.requires.stands

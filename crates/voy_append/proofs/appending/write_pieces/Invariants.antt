@@ -5,8 +5,8 @@ use Rattle.voy_disk.specs.Frames.{KeepsOtherFiles}
 use Rattle.voy_disk.specs.Fronts.{HasFront, KeepsFront}
 use Rattle.voy_disk.specs.Images.{ImagesOf}
 use Rattle.voy_disk.specs.Steps.{Follows}
-use Rattle.voy_queue.specs.Commit.{ReadsBehind}
-use Rattle.voy_queue.proofs.growing.write_pieces.Given as goal
+use Rattle.voy_append.specs.Appending.{ReadsBehind}
+use Rattle.voy_append.proofs.appending.write_pieces.Given as goal
 
 abbrev pub invariant-pieces : goal.invariant-pieces
 invariant-pieces g l = record {

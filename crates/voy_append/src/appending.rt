@@ -5,16 +5,20 @@ ghost use Rattle.voy_disk.specs.Files.{IfTold};
 ghost use Rattle.voy_disk.specs.Frames.{KeepsOtherFiles};
 ghost use Rattle.voy_disk.specs.Fronts.{HasFront, KeepsFront};
 ghost use Rattle.voy_disk.specs.Images.{ImagesOf};
-ghost use Rattle.voy_disk.specs.Steps.{Follows};
-ghost use Rattle.voy_queue.specs.Commit.{IsSafeBehind, IsSafeTo, ReadsBehind};
+ghost use Rattle.voy_disk.specs.Steps.{Follows, StaysTold};
+ghost use Rattle.voy_append.specs.Appending.{IsSafeBehind, IsSafeTo, ReadsBehind};
 
 use crate::limits::WRITE_BYTES;
 use voy_disk::{Disk, DiskError, Name};
 
-/// Writes what a segment has more behind its committed bytes, and makes it safe. A segment without any begins as an empty file.
+/// Writes bytes behind the first `start` ones of a file, which are all that it has, and makes them safe.
 ///
-/// Whatever it answers, a stop leaves the committed bytes.
-pub(crate) fn write_segment<D: Disk>(
+/// Where `start` is 0 the file is made, or made anew: whatever it had is gone, and where there are no bytes it is empty. Else it must be
+/// there. The bytes are written in pieces of at most 1,048,576 bytes, and one sync makes them safe.
+///
+/// Whatever it answers, a stop leaves the first `start` bytes and every other file. After an error the file may have any part of
+/// the bytes, or others in their place. `NoMemory` is an answer of the disk; nothing is allocated here.
+pub fn append_bytes<D: Disk>(
     disk: &mut D,
     name: &Name,
     start: u64,
@@ -26,15 +30,16 @@ pub(crate) fn write_segment<D: Disk>(
     ensures keeps { Follows (KeepsFront name.now start) (ImagesOf (D.files disk.old)) (ImagesOf (D.files disk.new)) }
     ensures others { Change (KeepsOtherFiles name.now) (D.files disk.old) (D.files disk.new) }
     ensures cause { HasCause DiskError.Failed (D.faults disk.old) (D.faults disk.new) result }
+    ensures told { StaysTold (ImagesOf (D.files disk.old)) (ImagesOf (D.files disk.new)) }
     ensures lender { D.lender disk.new ≡ D.lender disk.old }
 {
-    begin_segment(disk, name, start)?;
+    begin_file(disk, name, start)?;
     write_pieces(disk, name, start, bytes)?;
     disk.sync(name)
 }
 
-/// Makes the file of a segment that has no committed byte, empty.
-fn begin_segment<D: Disk>(disk: &mut D, name: &Name, start: u64) -> Result<(), DiskError>
+/// Makes the file empty where bytes are to stand from its beginning.
+fn begin_file<D: Disk>(disk: &mut D, name: &Name, start: u64) -> Result<(), DiskError>
     requires stands { IfTold (D.files disk.old) (IsSafeTo name.now start) }
     ensures ready { OnOk result (IfTold (D.files disk.new) (ReadsBehind name.now start [])) }
     ensures keeps { Follows (KeepsFront name.now start) (ImagesOf (D.files disk.old)) (ImagesOf (D.files disk.new)) }
@@ -49,7 +54,7 @@ fn begin_segment<D: Disk>(disk: &mut D, name: &Name, start: u64) -> Result<(), D
     disk.cut(name, 0)
 }
 
-/// Writes bytes behind the committed ones, piece by piece.
+/// Writes bytes behind those that are there, piece by piece.
 fn write_pieces<D: Disk>(
     disk: &mut D,
     name: &Name,

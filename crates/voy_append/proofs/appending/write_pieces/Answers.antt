@@ -1,7 +1,7 @@
 use Rattle.std.proofs.Common.{◌∙◌, arith, refl}
 use Rattle.voy_disk.specs.ChangeLaws.{others_on, others_still}
-use Rattle.voy_queue.proofs.GrowingLemmas.{front_kept, pieces_on, take_all}
-use Rattle.voy_queue.proofs.growing.write_pieces.Goals as goal
+use Rattle.voy_append.proofs.AppendingLemmas.{front_kept, pieces_on, take_all}
+use Rattle.voy_append.proofs.appending.write_pieces.Goals as goal
 
 pub pieces-init : goal.pieces-init
 pieces-init g c = record {

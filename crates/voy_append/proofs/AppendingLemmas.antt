@@ -1,4 +1,4 @@
--- What a commit's writes leave of the file of a segment.
+-- What the writes of an append leave of its file.
 use Rattle.std.proofs.Common.{◌≡◌, ◌≢◌, ◌≤◌, ◌<◌, ◌+◌, ◌-◌, ℕ, zero, suc, List, [], ◌∷◌, ◌++◌, Option, Some, None, Result, Ok, Err, length, take, drop, refl, sym, ap, ◌∙◌, subst, arith}
 use Rattle.std.specs.Prelude.{OnOk}
 use Rattle.std.proofs.Math.ListN.{drop_of_length-le}
@@ -18,7 +18,7 @@ use Rattle.voy_disk.specs.Images.{Image, ImagesOf, bytes_in}
 use Rattle.voy_disk.specs.StepLaws.{follows_on, follows_weaker}
 use Rattle.voy_disk.specs.Steps.{Follows}
 use Rattle.voy_disk.specs.declared.disk.DiskError.{DiskError}
-use Rattle.voy_queue.specs.Commit.{IsSafeBehind, IsSafeTo, ReadsBehind}
+use Rattle.voy_append.specs.Appending.{IsSafeBehind, IsSafeTo, ReadsBehind}
 
 -- ---- the file
 
@@ -191,3 +191,10 @@ pub take_all : (name : List ℕ) (start done : ℕ) (bytes : List ℕ) (files : 
     → IfTold files (ReadsBehind name start (take done bytes)) → IfTold files (ReadsBehind name start bytes)
 take_all name start done bytes files all reads =
     subst (λ written. IfTold files (ReadsBehind name start written)) (ap (λ n. take n bytes) all ∙ take-length bytes) reads
+
+-- behind no bytes it is the whole file
+pub whole_is_safe : (name bytes : List ℕ) (files : Files) → IsSafeBehind name 0 bytes files → files name ≡ Some (settled bytes)
+whole_is_safe name bytes files safe = by safe.front safe.size safe.is where
+  by : (front : List ℕ) → length front ≡ 0 → files name ≡ Some (settled (front ++ bytes)) → files name ≡ Some (settled bytes)
+  by [] none is = is
+  by (byte ∷ front) some is = absurd (omega (arith, some))
