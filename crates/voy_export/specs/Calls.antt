@@ -1,6 +1,5 @@
 -- What contracts say of the calls of an export.
-use Rattle.std.specs.Prelude.{◌≡◌, ◌⊎◌, ℕ, List, [], ◌∷◌, ◌++◌, Option, Some, None, Result, Ok, Err, filter, length, map}
-use Rattle.std.specs.List.{sum}
+use Rattle.std.specs.Prelude.{◌≡◌, ◌⊎◌, ℕ, List, [], ◌∷◌, ◌++◌, ◌+◌, Option, Some, None, Result, Ok, Err, count_by, length, map, suc}
 use Rattle.voy_disk.specs.Images.{Image}
 use Rattle.voy_disk.specs.Steps.{after_all}
 use Rattle.voy_event.specs.Events.{is_change}
@@ -38,10 +37,16 @@ AtEnd (Err NoMemory) P = Unit {0}
 abbrev pub IsQueueFile : List ℕ → Type 0
 IsQueueFile name = (name ≡ meta_name) ⊎ ((number : ℕ) × (name ≡ segment_name number))
 
+-- an error that names nothing in a recorded file
+abbrev pub IsUnnamed : ExportError → Type 0
+IsUnnamed (Refused file line why) = ⊥
+IsUnnamed (Limit file line) = ⊥
+IsUnnamed (Fault which) = Unit {0}
+IsUnnamed NoMemory = Unit {0}
+
 -- how many of these are changes
 abbrev pub count_changes : List Put → ℕ
-count_changes [] = 0
-count_changes (put ∷ puts) = changes_of put + count_changes puts
+count_changes puts = count_by (λ (put : Put). is_change put.event.what) puts
 
 -- the record of a table's snapshot with these rows, of so many tables
 abbrev pub snapshot_entry : (tables number : ℕ) → List (List Value) → MetaRecord
@@ -52,3 +57,17 @@ abbrev pub snapshot_steps : (tables number : ℕ) → List (List (List Value)) �
 snapshot_steps tables number [] = []
 snapshot_steps tables number (rows ∷ more) =
     AddsSnapshot (snapshot_entry tables number rows) (row_lines rows) ∷ snapshot_steps tables (suc number) more
+
+-- their records
+abbrev pub snapshot_entries : (tables number : ℕ) → List (List (List Value)) → List MetaRecord
+snapshot_entries tables number [] = []
+snapshot_entries tables number (rows ∷ more) = snapshot_entry tables number rows ∷ snapshot_entries tables (suc number) more
+
+-- the snapshot files of these tables
+abbrev pub snapshot_files : List Table → List (List ℕ)
+snapshot_files schema = map snapshot_file schema
+
+-- the rows of all recorded tables
+abbrev pub all_rows : List SnapshotState → ℕ
+all_rows [] = 0
+all_rows (one ∷ more) = one.rows + all_rows more

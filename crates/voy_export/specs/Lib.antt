@@ -6,3 +6,4 @@ pub mod Steps
 pub mod Sound
 pub mod Calls
 pub mod Errors
+pub mod Turns

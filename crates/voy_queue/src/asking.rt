@@ -24,6 +24,13 @@ impl Writer {
         self.live
     }
 
+    /// Whose events it puts.
+    pub fn role(&self) -> Role
+        ensures { result ≡ writer_role self.now }
+    {
+        self.role
+    }
+
     /// Where the queue ends by the last commit.
     pub fn committed_end(&self) -> End
         ensures { result ≡ committed_end self.now }

@@ -1,0 +1,14 @@
+//! Exports: the recorded rows into snapshot files, and the recorded changes into the queue.
+#![tactic(auto)]
+
+mod error;
+mod exported;
+mod gathering;
+mod limits;
+mod names;
+mod plan;
+
+pub use error::{ExportError, Which, Why};
+pub use exported::Exported;
+pub use limits::MAX_CSV_BYTES;
+pub use names::{csv_file, snapshot_file};

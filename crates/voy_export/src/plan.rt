@@ -1,0 +1,46 @@
+use voy_disk::Name;
+
+use crate::error::{ExportError, Why};
+
+/// What an export of changes has still to do.
+#[derive(Clone, Copy, Debug, PartialEq, Eq)]
+pub(crate) struct Plan {
+    /// How many changes it may add; `None` for any number.
+    pub left: Option<u64>,
+    /// Whether the cutover is asked for.
+    pub end: bool,
+}
+
+/// What was refused.
+#[derive(Debug, Drop)]
+pub(crate) enum Refusal {
+    /// A line has no reading.
+    Line { file: Name, line: u64, why: Why },
+    /// A line is too long, or no vsn or segment is left for its event.
+    Limit { file: Name, line: u64 },
+}
+
+/// What a step of an export came to.
+#[derive(Debug, Drop)]
+pub(crate) enum Step {
+    /// It put an event, and there may be more.
+    Put,
+    /// All is done.
+    Finished,
+    /// It was refused, and put nothing.
+    Stopped(Refusal),
+}
+
+impl From<Refusal> for ExportError {
+    ghost use Rattle.std.specs.Prelude.{◌≡◌};
+    ghost use Rattle.voy_export.specs.Errors.{error_of};
+
+    ghost from_gives = { λ refusal error. error ≡ error_of refusal };
+
+    fn from(refusal: Refusal) -> ExportError {
+        match refusal {
+            Refusal::Line { file, line, why } => ExportError::Refused { file, line, why },
+            Refusal::Limit { file, line } => ExportError::Limit { file, line },
+        }
+    }
+}
