@@ -7,3 +7,4 @@ pub mod Sound
 pub mod Calls
 pub mod Errors
 pub mod Turns
+pub mod Laws

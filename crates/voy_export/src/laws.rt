@@ -1,0 +1,16 @@
+ghost use Rattle.voy_export.specs.Laws.{CommitsAreLawful, ExportsAreNext, StepsKeepSound};
+
+/// Law: each step of an export that may be done keeps the export disk sound.
+pub fn steps_keep_sound()
+    ensures { StepsKeepSound }
+{}
+
+/// Law: what an export adds to a sound disk are the next events of the whole queue.
+pub fn exports_are_next()
+    ensures { ExportsAreNext }
+{}
+
+/// Law: the next events, put behind a sound queue and committed, are steps that may be done.
+pub fn commits_are_lawful()
+    ensures { CommitsAreLawful }
+{}
