@@ -1,4 +1,4 @@
-//! The worked cases of a move's metadata, as data.
+//! The worked cases of a move's metadata and queue, as data.
 //!
 //! The standard input has paragraphs with a blank line between; the format is described at its top, and each
 //! case is written from what is specified. The output has what each case came to, in the same order; the gate compares

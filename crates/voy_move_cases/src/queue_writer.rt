@@ -14,8 +14,8 @@ use voy_case_text::{
 };
 use voy_disk::{Disk, SureDisk};
 use voy_event::read_line;
-use voy_meta::{Meta, led_to};
-use voy_queue::{MAX_SEGMENT_BYTES, Writer};
+use voy_meta::{Meta, OPEN_SEGMENT_BYTES, led_to};
+use voy_queue::Writer;
 use voy_schema::Schema;
 use voy_tables::Role;
 
@@ -102,7 +102,7 @@ fn write_all<D: Disk>(
 {
     let (role, max_bytes) = first_word(case.words);
     let (role, max_bytes) = (role_of(role)?, number_of(max_bytes)?);
-    if max_bytes < 1 || max_bytes > MAX_SEGMENT_BYTES {
+    if max_bytes > OPEN_SEGMENT_BYTES {
         return Err(Trouble::Case("no size of a segment"));
     }
     let Ok(schema) = Schema::read(alloc, case.base(alloc, "SCHEMA")?.as_bytes()) else {

@@ -1,4 +1,4 @@
-//! The tests that are code of a move's metadata, over the public calls of the libraries.
+//! The tests that are code of a move's metadata and queue, over the public calls of the libraries.
 //!
 //! A case that is data (what is given, and what is wanted of it) stands in the program `voy_move_cases`. Here stand the
 //! tests which can not be data: what an outage or a fault leaves at each call of a disk, many segments, and laws called

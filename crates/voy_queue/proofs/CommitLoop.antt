@@ -13,11 +13,11 @@ use Rattle.voy_meta.specs.FoldLaws.{state_on}
 use Rattle.voy_meta.specs.Sides.{leads_to, request_of}
 use Rattle.voy_meta.specs.State.{after_record, state_after}
 use Rattle.voy_meta.specs.declared.state.MetaState.{MetaState}
-use Rattle.voy_queue.specs.Commit.{names_of}
 use Rattle.voy_queue.specs.Names.{segment_name}
 use Rattle.voy_queue.specs.Putting.{AreBehind, commit_of, end_of, entry_of, recorded_end}
 use Rattle.voy_queue.specs.PuttingLaws.{IsOpenWithin, one_within}
 use Rattle.voy_queue.specs.Shelf.{Commits, Shelf, shelf_after, shelf_in}
+use Rattle.voy_queue.specs.Writer.{names_of}
 use Rattle.voy_queue.specs.declared.end.Added.{Added}
 use Rattle.voy_queue.specs.declared.end.End.{End}
 use Rattle.voy_queue.proofs.CommitLemmas.{OneCommit}

@@ -1,6 +1,5 @@
 -- The bytes of a segment, as its writer puts them: each event's line with LF behind it, and at the end of a closed one the closing line.
 use Rattle.std.specs.Prelude.{ℕ, Bool, true, false, List, [], ◌∷◌, ◌++◌, Option, Some, None, ◌==◌, if◌then◌else◌}
-use Rattle.std.specs.List.{flat_map}
 use Rattle.std.specs.Option.{option_map}
 use Rattle.voy_event.specs.Events.{closing_line}
 use Rattle.voy_event.specs.LineText.{line_text}
@@ -18,10 +17,6 @@ event_bytes schema event = line_text schema event ++ line_feed ∷ []
 abbrev pub closing_bytes : Bool → List ℕ
 closing_bytes false = []
 closing_bytes true = closing_line ++ line_feed ∷ []
-
--- the bytes of a segment with these events
-abbrev pub segment_bytes : List Table → List Event → (closed : Bool) → List ℕ
-segment_bytes schema events closed = flat_map (event_bytes schema) events ++ closing_bytes closed
 
 -- the first line of these bytes without its LF, and what stands behind it; there is none where no LF stands in them
 unfoldable pub first_line : List ℕ → Option (List ℕ × List ℕ)

@@ -1,6 +1,6 @@
 -- What contracts see of a writer, and what it asks of the disk that it is lent.
-use Rattle.std.specs.Prelude.{◌≡◌, ◌≢◌, ◌≤◌, ℕ, Bool, List, [], ◌∷◌, Option, Some, length, map}
-use Rattle.voy_disk.specs.File.{settled}
+use Rattle.std.specs.Prelude.{◌≡◌, ◌≤◌, ℕ, Bool, List, [], ◌∷◌, Option, length, map}
+use Rattle.voy_append.specs.Appending.{IsSafeTo}
 use Rattle.voy_disk.specs.Files.{Files, IfTold}
 use Rattle.voy_disk.specs.Fronts.{HasFront}
 use Rattle.voy_disk.specs.Images.{Image}
@@ -50,9 +50,9 @@ entries_of writer = map (entry_of writer.role) writer.pending
 abbrev pub commits_of : Writer → List Commits
 commits_of writer = map (commit_of writer.role) writer.pending
 
--- the files that a commit writes: those of the segments, and the metadata
-abbrev pub commit_names : Writer → List (List ℕ)
-commit_names writer = meta_name ∷ map (λ (one : Added). segment_name one.end.number) writer.pending
+-- the files that a commit of these writes: the metadata, and those of the segments
+abbrev pub names_of : List Added → List (List ℕ)
+names_of added = meta_name ∷ map (λ (one : Added). segment_name one.end.number) added
 
 -- an event that may be put: it belongs to the schema, a segment is left for it, and it may follow where its line is within the limit
 pub record MayPut (schema : List Table) (writer : Writer) (event : Event) (spot : Option Spot) : Type 0 where
@@ -61,10 +61,8 @@ pub record MayPut (schema : List Table) (writer : Writer) (event : Event) (spot 
   pub follows : length (line_text schema event) ≤ max_event_line_bytes → MayFollow schema writer.role (writer_end writer) event spot
 
 -- what a writer asks of the disk that it is lent, where told: the file of the last segment has just its committed bytes, all safe
-pub record StandsIn (end : End) (files : Files) : Type 0 where
-  pub content : List ℕ
-  pub size : length content ≡ end.bytes
-  pub file : end.bytes ≢ 0 → files (segment_name end.number) ≡ Some (settled content)
+abbrev pub StandsIn : End → Files → Type 0
+StandsIn end = IsSafeTo (segment_name end.number) end.bytes
 
 -- the file of each of these segments has just the bytes up to its end, all safe
 abbrev pub AllStand : List Added → Files → Type 0

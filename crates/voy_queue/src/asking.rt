@@ -49,6 +49,7 @@ impl Writer {
     pub fn takes(&self, event: &Event, spot: Option<Spot>) -> bool
         ensures may { (schema : List Table) → IsTrue result → IsLawful schema event.now → MayPut schema self.now event.now spot }
         ensures all { (schema : List Table) → MayPut schema self.now event.now spot → length (line_text schema event.now) ≤ max_event_line_bytes → IsTrue result }
+        ensures exact { result ≡ takes (writer_role self.now) (writer_end self.now) event.now spot }
     {
         self.is_taken(event, spot)
     }

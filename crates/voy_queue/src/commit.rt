@@ -13,11 +13,11 @@ ghost use Rattle.voy_meta.specs.Meta.{is_live as meta_live};
 ghost use Rattle.voy_meta.specs.Sides.{leads_to, request_of};
 ghost use Rattle.voy_meta.specs.State.{after_record, state_after};
 ghost use Rattle.voy_meta.specs.declared.limits.TheConstants.{MAX_SEGMENT_BYTES};
-ghost use Rattle.voy_queue.specs.Commit.{names_of, start_of};
+ghost use Rattle.voy_queue.specs.Commit.{start_of};
 ghost use Rattle.voy_queue.specs.Names.{segment_name};
 ghost use Rattle.voy_queue.specs.Putting.{AreBehind, AreShut, IsBehind, commit_of, end_of, entry_of, recorded_end};
 ghost use Rattle.voy_queue.specs.Shelf.{shelf_after, shelf_in};
-ghost use Rattle.voy_queue.specs.Writer.{AllStand, StandsIn, WriterStands, closing_size, commit_names, committed_end, commits_of, entries_of, is_live, pending, writer_end, writer_role};
+ghost use Rattle.voy_queue.specs.Writer.{AllStand, StandsIn, WriterStands, closing_size, committed_end, commits_of, entries_of, is_live, names_of, pending, writer_end, writer_role};
 
 use crate::asking::end_of;
 use crate::end::Added;
@@ -70,7 +70,7 @@ impl Writer {
         ensures role { writer_role self.new ≡ writer_role self.old }
         ensures size { closing_size self.new ≡ closing_size self.old }
         ensures prefix { LeavesPrefix (Does shelf_in shelf_after) (commits_of self.old) (ImagesOf (D.files disk.old)) (ImagesOf (D.files disk.new)) }
-        ensures others { Change (KeepsBeside (OneOf (commit_names self.old))) (D.files disk.old) (D.files disk.new) }
+        ensures others { Change (KeepsBeside (OneOf (names_of (pending self.old)))) (D.files disk.old) (D.files disk.new) }
         ensures told { StaysTold (ImagesOf (D.files disk.old)) (ImagesOf (D.files disk.new)) }
         ensures lender { D.lender disk.new ≡ D.lender disk.old }
         // when a fault comes

@@ -12,7 +12,6 @@ mod end;
 mod error;
 mod last_line;
 mod laws;
-mod limits;
 mod names;
 mod put;
 mod reader;
@@ -29,6 +28,5 @@ pub use error::QueueError;
 pub use laws::{
     events_are_counted, lines_are_counted, puts_are_behind, shelves_are_read, written_reads_back,
 };
-pub use limits::MAX_SEGMENT_BYTES;
 pub use reader::Reader;
 pub use writer::Writer;

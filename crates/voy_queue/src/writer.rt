@@ -2,7 +2,6 @@ ghost use Rattle.std.specs.Prelude.{◌<◌, ◌≤◌, ◌≡◌, false};
 ghost use Rattle.voy_meta.specs.declared.limits.TheConstants.{OPEN_SEGMENT_BYTES};
 ghost use Rattle.voy_queue.specs.Behind.{are_behind_prop, are_shut_prop};
 ghost use Rattle.voy_queue.specs.Putting.{AreBehind, AreShut};
-ghost use Rattle.voy_queue.specs.declared.limits.TheConstants.{MAX_SEGMENT_BYTES};
 
 use crate::end::{End, Pending};
 use std::alloc::Global;
@@ -26,6 +25,6 @@ pub struct Writer {
     pub(crate) live: bool,
     ghost behind: { AreBehind end pending } by { are_behind_prop end pending },
     ghost shut: { AreShut pending } by { are_shut_prop pending },
-    ghost size: { max_bytes ≤ MAX_SEGMENT_BYTES },
+    ghost size: { max_bytes ≤ OPEN_SEGMENT_BYTES },
     ghost room: { end.closed ≡ false → end.bytes < OPEN_SEGMENT_BYTES },
 }

@@ -6,12 +6,11 @@ ghost use Rattle.voy_disk.specs.Frames.{KeepsOtherFiles};
 ghost use Rattle.voy_disk.specs.Images.{ImagesOf};
 ghost use Rattle.voy_disk.specs.Steps.{Follows, StaysTold};
 ghost use Rattle.voy_meta.specs.Meta.{MetaStands, meta_state};
-ghost use Rattle.voy_meta.specs.declared.limits.TheConstants.{MAX_SEGMENT};
+ghost use Rattle.voy_meta.specs.declared.limits.TheConstants.{MAX_SEGMENT, OPEN_SEGMENT_BYTES};
 ghost use Rattle.voy_queue.specs.Names.{segment_name};
 ghost use Rattle.voy_queue.specs.Opening.{IsShort, is_short};
 ghost use Rattle.voy_queue.specs.Putting.{recorded_end};
 ghost use Rattle.voy_queue.specs.Writer.{EndIsSafe, KeepsShelf, WriterStands, closing_size, committed_end, is_live, pending, writer_role};
-ghost use Rattle.voy_queue.specs.declared.limits.TheConstants.{MAX_SEGMENT_BYTES};
 
 use crate::end::End;
 use crate::error::QueueError;
@@ -24,7 +23,7 @@ use voy_schema::Items;
 use voy_tables::Role;
 
 impl Writer {
-    /// Opens a writer of an exporter's events behind the queue, which closes a segment at so many bytes of event lines.
+    /// Opens a writer of an exporter's events behind the queue, which closes a segment at so many bytes of event lines (at 0 behind each event).
     ///
     /// The last segment is cut to its committed bytes, and those are made safe. `Damaged` comes exactly where it has fewer, with the
     /// offset behind its last whole line, and nothing is changed then. Where no byte is committed no call of the disk is made.
@@ -35,8 +34,7 @@ impl Writer {
         role: Role,
         max_bytes: u64,
     ) -> Result<Writer, QueueError>
-        requires some { 1 ≤ max_bytes }
-        requires few { max_bytes ≤ MAX_SEGMENT_BYTES }
+        requires few { max_bytes ≤ OPEN_SEGMENT_BYTES }
         requires stands { MetaStands meta.now (D.files disk.old) }
 
         // after Ok

@@ -4,10 +4,9 @@ use Rattle.voy_disk.specs.Frames.{OneOf}
 use Rattle.voy_disk.specs.StepLaws.{follows_nothing, follows_weaker}
 use Rattle.voy_disk.specs.Files.{IfTold}
 use Rattle.voy_meta.specs.Meta.{meta_state}
-use Rattle.voy_queue.specs.Commit.{names_of}
 use Rattle.voy_queue.specs.Putting.{AreBehind, AreShut, recorded_end}
 use Rattle.voy_queue.specs.Shelf.{shelf_in}
-use Rattle.voy_queue.specs.Writer.{AllStand, StandsIn}
+use Rattle.voy_queue.specs.Writer.{AllStand, StandsIn, names_of}
 use Rattle.voy_queue.proofs.CommitLoop.{all_at, done_at, ended_now, asked_on, behind_at, end_more, images_more, may_on, others_more, state_more, stopped_at}
 use Rattle.voy_queue.proofs.StandLemmas.{all_stand}
 use Rattle.voy_queue.proofs.RecordLemmas.{end_recorded, snapshot_stays}

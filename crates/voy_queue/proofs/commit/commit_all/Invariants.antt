@@ -8,10 +8,9 @@ use Rattle.voy_meta.specs.Allowed.{has_snapshot, writes}
 use Rattle.voy_meta.specs.Meta.{MetaStands, is_live, meta_state}
 use Rattle.voy_meta.specs.Sides.{leads_to, request_of}
 use Rattle.voy_meta.specs.State.{state_after}
-use Rattle.voy_queue.specs.Commit.{names_of}
 use Rattle.voy_queue.specs.Putting.{AreBehind, commit_of, end_of, entry_of, recorded_end}
 use Rattle.voy_queue.specs.Shelf.{shelf_after, shelf_in}
-use Rattle.voy_queue.specs.Writer.{AllStand, StandsIn}
+use Rattle.voy_queue.specs.Writer.{AllStand, StandsIn, names_of}
 use Rattle.voy_queue.proofs.commit.commit_all.Given as goal
 
 abbrev pub invariant-loop-one : goal.invariant-loop-one

@@ -4,14 +4,14 @@ use Rattle.voy_disk.specs.FrameLaws.{files_beside_nothing}
 use Rattle.voy_disk.specs.Frames.{OneOf}
 use Rattle.voy_queue.specs.Putting.{end_of}
 use Rattle.voy_queue.specs.PuttingLaws.{IsOpenWithin}
-use Rattle.voy_queue.specs.Writer.{commit_names}
+use Rattle.voy_queue.specs.Writer.{names_of}
 use Rattle.voy_meta.specs.Meta.{meta_state}
 use Rattle.voy_queue.proofs.AllowedLemmas.{commit_allowed}
 use Rattle.voy_queue.proofs.CommitLoop.{ends_small}
 use Rattle.voy_queue.proofs.writer.Writer.commit.Goals as goal
 
 pub returns-then-is_empty-clause-others : goal.returns-then-is_empty-clause-others
-returns-then-is_empty-clause-others g c = files_beside_nothing (OneOf (commit_names c.args.self.now)) _ _ refl
+returns-then-is_empty-clause-others g c = files_beside_nothing (OneOf (names_of c.args.self.now.pending)) _ _ refl
 
 pub returns-in_err-commit_all-clause-told : goal.returns-in_err-commit_all-clause-told
 returns-in_err-commit_all-clause-told g c = change_stays_told c.in_err-commit_all.ensures.others (g.met.D.Disk.reads_an_image c.commit_all.new.disk)
