@@ -11,6 +11,25 @@ pub(crate) struct Plan {
     pub end: bool,
 }
 
+impl Plan {
+    ghost use Rattle.std.specs.Prelude.{◌≡◌};
+    ghost use Rattle.voy_export.specs.Turns.{one_less};
+
+    /// What is left to do behind one change more.
+    pub fn after_change(self) -> Plan
+        ensures left { result.left ≡ one_less self.left }
+        ensures end { result.end ≡ self.end }
+    {
+        match self.left {
+            None => self,
+            Some(left) => Plan {
+                left: Some(left.saturating_sub(1)),
+                end: self.end,
+            },
+        }
+    }
+}
+
 /// What was refused.
 #[derive(Debug, Drop)]
 pub(crate) enum Refusal {
