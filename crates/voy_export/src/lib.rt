@@ -8,11 +8,9 @@ mod laws;
 mod limits;
 mod names;
 mod plan;
-mod snapshot;
 
 pub use error::{ExportError, Which, Why};
 pub use exported::Exported;
 pub use laws::{commits_are_lawful, exports_are_next, steps_keep_sound};
 pub use limits::MAX_CSV_BYTES;
-pub use snapshot::export_snapshot;
 pub use names::{csv_file, snapshot_file};
