@@ -19,7 +19,7 @@ use Rattle.voy_feed.specs.Kept.{ChangeReading, change_file, kept_reading}
 use Rattle.voy_feed.specs.declared.feed.Feed.{Feed}
 use Rattle.voy_feed.specs.declared.keep.Keep.{Keep}
 use Rattle.voy_queue.specs.Putting as putting
-use Rattle.voy_queue.specs.Putting.{MayFollow, MayFollowInTurn, commit_of, end_after, end_of, pending_after, pending_with}
+use Rattle.voy_queue.specs.Putting.{MayFollow, MayFollowInTurn, commit_of, end_after, end_of, end_behind, pending_after, pending_with, shelf_with}
 use Rattle.voy_queue.specs.Shelf.{Shelf, shelf_after}
 use Rattle.voy_queue.specs.Writer.{closing_size, committed_end, pending, writer_end, writer_role}
 use Rattle.voy_queue.specs.declared.end.End.{End}
@@ -87,14 +87,6 @@ Puts schema old new line put (Stopped refusal) = PutsNone old new line refusal
 abbrev pub StopsAt : Role → FeedError → Step → Type 0
 StopsAt role (feed.Line line why) (Stopped refusal) = stop_told refusal ≡ stop_at (change_file role) line why
 StopsAt role error step = ⊥
-
--- the end behind puts that were committed
-abbrev pub end_behind : List Table → (size : ℕ) → End → List putting.Put → End
-end_behind schema size end puts = end_of end (pending_with schema size end [] puts)
-
--- the shelf with puts committed at once
-abbrev pub shelf_with : List Table → Role → (size : ℕ) → Shelf → End → List putting.Put → Shelf
-shelf_with schema role size shelf end puts = after_all shelf_after shelf (map (commit_of role) (pending_with schema size end [] puts))
 
 -- the shelf with puts committed in these parts, one after the other
 abbrev pub in_parts : List Table → Role → (size : ℕ) → Shelf → End → List (List putting.Put) → Shelf

@@ -115,7 +115,7 @@ fn put_next<D: Disk>(
     ensures no_export { IfErr result (λ error. error ≢ ExportError.Fault Which.Export) }
     ensures unnamed { IfErr result IsUnnamed }
 {
-    if plan.left == Some(0) && !plan.end {
+    if plan.is_over() {
         return Ok(Step::Finished);
     }
     match feed.next_kept(keep, recording, schema) {
