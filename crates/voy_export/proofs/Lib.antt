@@ -1,2 +1,4 @@
 pub mod EndLemmas
 pub mod GatherLemmas
+pub mod ShelfLemmas
+pub mod CommitLemmas
