@@ -84,9 +84,15 @@ impl Feed {
         // the end
         ensures none { IfOk result (λ found. IfNone found (IfTold (D.files disk.old) (λ fs.
             kept_reading (last_kept keep.old) (changes_left schema.now.tables self.old fs) ≡ nothing_left))) }
+        ensures still { IfOk result (λ found. IfNone found (IfTold (D.files disk.old) (λ fs.
+            kept_reading (last_kept keep.new) (changes_left schema.now.tables self.new fs) ≡ nothing_left))) }
         // a line that has no reading
         ensures line { IfErr result (λ error. (line : _) (why : _) → error ≡ FeedError.Line line why → IfTold (D.files disk.old) (λ fs.
             kept_reading (last_kept keep.old) (changes_left schema.now.tables self.old fs) ≡ refused_at line why)) }
+        // after an error
+        ensures before { OnErr result (IfTold (D.files disk.old) (λ fs.
+            kept_reading (last_kept keep.new) (changes_left schema.now.tables self.new fs) ≡ kept_reading (last_kept keep.old) (changes_left schema.now.tables self.old fs))) }
+        ensures unmoved { OnErr result (last_kept keep.new ≡ last_kept keep.old) }
         // whatever it answers
         ensures stands { FeedStands self.new (D.files disk.new) }
         ensures same { D.files disk.new ≡ D.files disk.old }

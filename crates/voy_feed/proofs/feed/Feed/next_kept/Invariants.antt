@@ -10,6 +10,7 @@ invariant-lines g l = record {
       kept_reading (last_kept l.keep) (changes_left l.schema.tables l.self fs)
       ≡ kept_reading (last_kept l.fn.keep) (changes_left l.schema.tables l.fn.self fs));
   stands : FeedStands l.self (g.D.Disk.files l.disk);
+  last : last_kept l.keep ≡ last_kept l.fn.keep;
   fewer : bytes_left l.self ≤ bytes_left l.fn.self;
   same : g.D.Disk.files l.disk ≡ g.D.Disk.files l.fn.disk;
   later : g.D.Disk.faults l.fn.disk ≤ g.D.Disk.faults l.disk;
