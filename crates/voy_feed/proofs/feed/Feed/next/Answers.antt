@@ -1,14 +1,9 @@
 use Rattle.std.proofs.Common.{◌≡◌, ◌∙◌, ◌+◌, ap, refl, subst, sym, Some}
 use Rattle.voy_disk.specs.Files.{Files}
-use Rattle.voy_feed.proofs.FeedLemmas.{GoesBehind, change_behind, none_left, stands_behind}
+use Rattle.voy_feed.proofs.FeedLemmas.{GoesBehind, change_behind, stands_behind}
 use Rattle.voy_files.specs.Reader.{StandsAt, bytes_taken, found_line, has_line_feed, unread}
 use Rattle.voy_feed.proofs.feed.Feed.next.Given as given
 use Rattle.voy_feed.proofs.feed.Feed.next.Goals as goal
-
-pub returns-in-End-clause-none : goal.returns-in-End-clause-none
-returns-in-End-clause-none g c fs told =
-    let found = rw c.in-End.is at c.in_ok-next.ensures.found in
-    none_left c.args.schema.now.tables c.args.self.now fs _ (c.in_ok-lines.ensures.unread fs (c.requires.stands fs told)) (found fs told)
 
 pub pass-requires-clause-place : goal.pass-requires-clause-place
 pass-requires-clause-place g c =
