@@ -51,13 +51,34 @@ shelf_agrees i k agrees =
     ap (λ (records : Option (List MetaRecord)). record { records = records; segments = segments_in k records }) (records_agree i k agrees)
     ∙ ap (λ (segments : List (List ℕ)). record { records = records_in i; segments = segments }) (segments_agree i k (records_in i) agrees)
 
+-- the second byte of the bytes; 0 where there is none
+second : List ℕ → ℕ
+second [] = 0
+second (a ∷ []) = 0
+second (a ∷ b ∷ rest) = b
+
+second_of_snapshot : (table : Table) → second (snapshot_file table) ≡ 110
+unfolding snapshot_file
+second_of_snapshot table = refl
+
+second_of_meta : second meta_name ≡ 101
+unfolding meta_name
+second_of_meta = refl
+
+second_of_segment : (number : ℕ) → second (segment_name number) ≡ 101
+unfolding segment_name
+second_of_segment number = refl
+
+apart : (a b : List ℕ) → second a ≡ 110 → second b ≡ 101 → a ≢ b
+apart a b n e same = by (sym n ∙ ap second same ∙ e) where
+  by : 110 ≡ 101 → ⊥
+  by never = grind (arith, never)
+
 no_meta : (table : Table) → snapshot_file table ≢ meta_name
-unfolding snapshot_file meta_name
-no_meta table = λ same. cc
+no_meta table = apart (snapshot_file table) meta_name (second_of_snapshot table) second_of_meta
 
 no_segment : (table : Table) (number : ℕ) → snapshot_file table ≢ segment_name number
-unfolding snapshot_file segment_name
-no_segment table number = λ same. cc
+no_segment table number = apart (snapshot_file table) (segment_name number) (second_of_snapshot table) (second_of_segment number)
 
 -- a snapshot file is no file of the queue
 pub snapshot_apart : (schema : List Table) (name : List ℕ) → OneOf (snapshot_files schema) name → IsQueueFile name → ⊥
@@ -114,6 +135,13 @@ mixed_was schema i j (told {old = x} {new = y} keeps) was is = λ name.
 one_stays : (state : MetaState) (e : MetaRecord) → AreQueueRecords (e ∷ []) → (after_record state e).snapshots ≡ state.snapshots
 unfolding after_record
 one_stays state (entry.Queue segment bytes vsn role spot closed ended) queue = refl
+one_stays state (entry.Version version) queue = absurd queue.0
+one_stays state (entry.Snapshot table of bytes rows) queue = absurd queue.0
+one_stays state (entry.Request side fall_back) queue = absurd queue.0
+one_stays state (entry.Channels side count) queue = absurd queue.0
+one_stays state (entry.Finished side segment) queue = absurd queue.0
+one_stays state (entry.Done side) queue = absurd queue.0
+one_stays state entry.Loaded queue = absurd queue.0
 
 pub snapshots_stay : (state : MetaState) (more : List MetaRecord) → AreQueueRecords more → (state_after state more).snapshots ≡ state.snapshots
 snapshots_stay state [] queue = refl

@@ -1,10 +1,10 @@
-ghost use Rattle.std.specs.Prelude.{◌≡◌, ◌≢◌, ◌<◌, ◌+◌, ◌-◌, ◌^◌, ℕ, None, Some, IfErr, IfOk, IfNone, IfSome, OnErr, min};
+ghost use Rattle.std.specs.Prelude.{◌≡◌, ◌≢◌, ◌<◌, ◌+◌, ◌-◌, ◌^◌, ℕ, None, Some, IfErr, IfOk, IfNone, IfSome, IsTrue, OnErr, min};
 ghost use Rattle.voy_disk.specs.Faults.{HasCause};
 ghost use Rattle.voy_disk.specs.Files.{Files, IfTold, bytes_now};
 ghost use Rattle.voy_event.specs.LawfulEvent.{IsLawfulChange};
 ghost use Rattle.voy_event.specs.declared.limits.TheConstants.{MAX_RECORDED_LINE_BYTES};
 ghost use Rattle.voy_feed.specs.Feed.{FeedStands, StandsOn, bytes_behind, bytes_left, changes_left, last_kept, lines_given};
-ghost use Rattle.voy_feed.specs.Kept.{behind_change, kept_reading, nothing_left, refused_at};
+ghost use Rattle.voy_feed.specs.Kept.{behind_change, is_above, kept_reading, nothing_left, refused_at};
 ghost use Rattle.voy_files.specs.Reader.{StandsAt, bytes_taken, found_line, has_line_feed, line_limit, unread, bytes_left as reader_left};
 
 use crate::error::FeedError;
@@ -79,6 +79,7 @@ impl Feed {
             kept_reading (last_kept keep.old) (changes_left schema.now.tables self.old fs)
             ≡ behind_change (lines_given self.new) recorded (kept_reading (last_kept keep.new) (changes_left schema.now.tables self.new fs))))) }
         ensures lawful { IfOk result (λ found. IfSome found (λ recorded. IsLawfulChange schema.now.tables recorded.change)) }
+        ensures above { IfOk result (λ found. IfSome found (λ recorded. IsTrue (is_above (last_kept keep.old) recorded.spot))) }
         ensures last { IfOk result (λ found. IfSome found (λ recorded. last_kept keep.new ≡ Some recorded.spot)) }
         ensures shrinks { IfOk result (λ found. IfSome found (λ recorded. bytes_left self.new < bytes_left self.old)) }
         // the end
