@@ -1,7 +1,7 @@
 -- What a commit leaves of an export disk, as it reads.
 use Rattle.std.specs.Prelude.{◌≡◌, ◌≢◌, ℕ, zero, suc, Bool, true, false, List, [], ◌∷◌, ◌++◌, Option, Some, None, length, map, take}
 use Rattle.std.specs.Option.{option_map}
-use Rattle.std.proofs.Common.{refl, sym, ap, subst, ◌∙◌}
+use Rattle.std.proofs.Common.{append_assoc, append-nil, refl, sym, ap, subst, ◌∙◌}
 use Rattle.voy_disk.specs.Calls.{Change}
 use Rattle.voy_disk.specs.Files.{Files}
 use Rattle.voy_disk.specs.Frames.{KeepsBeside}
@@ -14,14 +14,14 @@ use Rattle.voy_export.specs.Laws.{AreNext, CommitsAreLawful}
 use Rattle.voy_export.specs.Put.{AreQueueRecords, HasPut}
 use Rattle.voy_export.specs.Recording.{Recording}
 use Rattle.voy_export.specs.Sound.{SoundExports}
-use Rattle.voy_export.specs.Steps.{AddsEvents, MayExport, export_step, last_vsn}
+use Rattle.voy_export.specs.Steps.{AddsEvents, ExportStep, MayExport, export_step, last_vsn}
 use Rattle.voy_meta.specs.Allowed.{allowed_after, writes}
 use Rattle.voy_meta.specs.FoldLaws.{state_on}
 use Rattle.voy_meta.specs.Meta.{ReadsAs, records_in}
 use Rattle.voy_meta.specs.State.{empty_state, state_of}
 use Rattle.voy_meta.specs.declared.record.MetaRecord.{MetaRecord}
 use Rattle.voy_meta.specs.declared.state.MetaState.{MetaState}
-use Rattle.voy_queue.specs.Laws.{ArePut, FirstPartIsPut, RecordsWith, StandsAsItself}
+use Rattle.voy_queue.specs.Laws.{ArePut, FirstPartIsPut, StandsAsItself}
 use Rattle.voy_queue.specs.Putting.{MayFollowInTurn, Put, commit_of, entry_of, pending_with, recorded_end, shelf_with}
 use Rattle.voy_queue.specs.Shelf.{Commits, Shelf, StandsAs, shelf_after, shelf_in}
 use Rattle.voy_queue.specs.declared.end.Added.{Added}
@@ -43,10 +43,28 @@ snapshots_more schema image records entries more queue is =
     ∙ ap (λ (state : MetaState). contents image schema state.snapshots) (state_on empty_state entries more)
     ∙ ap (contents image schema) (snapshots_stay (state_of entries) more queue)
 
--- some state's snapshots in an image that has Queue records more
+-- the records of a shelf with commits more
+records_after : (role : Role) (xs : List Added) (shelf : Shelf) (entries : List MetaRecord) → shelf.records ≡ Some entries
+    → (after_all shelf_after shelf (map (commit_of role) xs)).records ≡ Some (entries ++ map (entry_of role) xs)
+records_after role [] shelf entries is = is ∙ ap Some (sym (append-nil entries))
+records_after role (x ∷ xs) shelf entries is =
+    records_after role xs (shelf_after shelf (commit_of role x)) (entries ++ entry_of role x ∷ []) (ap (option_map (λ found. found ++ entry_of role x ∷ [])) is)
+    ∙ ap Some (append_assoc entries (entry_of role x ∷ []) (map (entry_of role) xs))
+
+module _ (schema : List Table) (role : Role) (state : MetaState) (old : Option Files) (reads : Every (ImagesOf old) (ReadsAs state)) where
+  -- an image that reads as the shelf of one before with commits more has the snapshots of its mixture
+  pub same_snapshots : (xs : List Added) (i j : Image) → ImagesOf old i → shelf_in j ≡ after_all shelf_after (shelf_in i) (map (commit_of role) xs)
+      → (exports_in schema j).snapshots ≡ (exports_in schema (mixed schema i j)).snapshots
+  same_snapshots xs i j was reads_on =
+      let here = reads.each i was in
+      let behind : (shelf_in j).records ≡ Some (here.entries ++ map (entry_of role) xs) =
+      ap (λ (s : Shelf). s.records) reads_on ∙ records_after role xs (shelf_in i) here.entries here.read in
+      let same = ap (λ (s : Shelf). s.records) (shelf_agrees i (mixed schema i j) (mixed_queue schema i j)) in
+      snapshots_more schema j (records_in j) here.entries (map (entry_of role) xs) (entries_are_queue role xs) behind
+      ∙ sym (ap (snapshots_in schema (mixed schema i j)) (same ∙ here.read) ∙ mixed_contents schema i j (state_of here.entries).snapshots)
+
 module _ (schema : List Table) (role : Role) (size : ℕ) (end : End) (state : MetaState) {old new : Option Files}
-    (others : Change (KeepsBeside IsQueueFile) old new) (reads : Every (ImagesOf old) (ReadsAs state))
-    (itself : StandsAsItself) (records_with : RecordsWith) where
+    (others : Change (KeepsBeside IsQueueFile) old new) (reads : Every (ImagesOf old) (ReadsAs state)) (itself : StandsAsItself) where
 
   -- an image that reads as the shelf with these puts has them, from one of before
   pub one_put : (puts : List Put) (i j : Image) → ImagesOf old i → ImagesOf new j → shelf_in j ≡ shelf_with schema role size (shelf_in i) end puts
@@ -54,16 +72,16 @@ module _ (schema : List Table) (role : Role) (size : ℕ) (end : End) (state : M
   one_put puts i j was is reads_on =
       let same = shelf_agrees i (mixed schema i j) (mixed_queue schema i j) in
       let here = reads.each i was in
-      let more = map (entry_of role) (pending_with schema size end [] puts) in
-      let behind : (shelf_in j).records ≡ Some (here.entries ++ more) = ap (λ (s : Shelf). s.records) reads_on ∙ records_with schema role size (shelf_in i) end puts here.entries here.read in
+      let xs = pending_with schema size end [] puts in
+      let behind : (shelf_in j).records ≡ Some (here.entries ++ map (entry_of role) xs) =
+      ap (λ (s : Shelf). s.records) reads_on ∙ records_after role xs (shelf_in i) here.entries here.read in
       record {
         shelf = subst (λ (s : Shelf). StandsAs (shelf_in j) (shelf_with schema role size s end puts)) (sym same)
             (subst (λ (s : Shelf). StandsAs (shelf_in j) s) reads_on (itself (shelf_in j)));
-        more = more;
-        queue = entries_are_queue role (pending_with schema size end [] puts);
-        records = behind ∙ sym (ap (option_map (λ entries. entries ++ more)) (ap (λ (s : Shelf). s.records) same ∙ here.read));
-        snapshots = snapshots_more schema j (records_in j) here.entries more (entries_are_queue role (pending_with schema size end [] puts)) behind
-            ∙ sym (ap (snapshots_in schema (mixed schema i j)) (ap (λ (s : Shelf). s.records) same ∙ here.read) ∙ mixed_contents schema i j (state_of here.entries).snapshots);
+        more = map (entry_of role) xs;
+        queue = entries_are_queue role xs;
+        records = behind ∙ sym (ap (option_map (λ entries. entries ++ map (entry_of role) xs)) (ap (λ (s : Shelf). s.records) same ∙ here.read));
+        snapshots = same_snapshots schema role state old reads xs i j was reads_on;
       }
 
   -- whatever a commit answers, an image has some first puts more
@@ -95,3 +113,72 @@ module _ (schema : List Table) (role : Role) (size : ℕ) (end : End) (state : M
       was = mixed_was schema from.before j others from.was is;
       by = one_put puts from.before j from.was is (from.by ∙ ap (after_all shelf_after (shelf_in from.before)) (ap (map (commit_of role)) pends));
     }
+
+some_same : {A : Type 0} {x y : A} → Some x ≡ Some y → x ≡ y
+some_same same = cc
+
+-- whatever a commit answers, lawful steps lead to each image after
+module _ (recording : Recording) (role : Role) (size : ℕ) (state : MetaState) {old new : Option Files} (others : Change (KeepsBeside IsQueueFile) old new)
+    (reads : Every (ImagesOf old) (ReadsAs state)) (law : CommitsAreLawful) (lawful : is_lawful recording.schema ≡ true) (puts : List Put)
+    (sound : Every (ImagesOf old) (λ image. SoundExports recording (exports_in recording.schema image))) where
+
+  -- the commits of an image of before are lawful
+  abbrev LawfulAt : Image → MetaState → ℕ → Type 0
+  LawfulAt image s count = Lawful export_step (MayExport recording) (exports_in recording.schema image)
+      (map AddsEvents (map (commit_of role) (take count (pending_with recording.schema size (recorded_end s role) [] puts))))
+
+  lawful_at : (image : Image) → ImagesOf old image → (count : ℕ) → writes state role ≡ true
+      → MayFollowInTurn recording.schema role size (recorded_end state role) puts
+      → allowed_after state (map (entry_of role) (pending_with recording.schema size (recorded_end state role) [] puts)) ≡ true
+      → AreNext recording (last_vsn state) puts → LawfulAt image state count
+  lawful_at image is count may follows allowed next =
+      subst (λ (s : MetaState). LawfulAt image s count) same
+      (law recording image role size puts count lawful here
+      (subst (λ (s : MetaState). writes s role ≡ true) (sym same) may)
+      (subst (λ (s : MetaState). MayFollowInTurn recording.schema role size (recorded_end s role) puts) (sym same) follows)
+      (subst (λ (s : MetaState). allowed_after s (map (entry_of role) (pending_with recording.schema size (recorded_end s role) [] puts)) ≡ true) (sym same) allowed)
+      (subst (λ (s : MetaState). AreNext recording (last_vsn s) puts) (sym same) next))
+    where
+      here : SoundExports recording (exports_in recording.schema image)
+      here = sound.each image is
+      same : state_of here.entries ≡ state
+      same = ap state_of (some_same (sym here.read ∙ (reads.each image is).read)) ∙ sym (reads.each image is).state_is
+
+  pub commit_moves : (pending : List Added) (end : End) → end ≡ recorded_end state role → pending ≡ pending_with recording.schema size end [] puts
+      → writes state role ≡ true → MayFollowInTurn recording.schema role size end puts
+      → allowed_after state (map (entry_of role) pending) ≡ true → AreNext recording (last_vsn state) puts
+      → LeavesPrefix (Does shelf_in shelf_after) (map (commit_of role) pending) (ImagesOf old) (ImagesOf new)
+      → Goes (exports_in recording.schema) export_step (MayExport recording) (ImagesOf old) (ImagesOf new)
+  commit_moves pending end here pends may follows allowed next prefix = record { from = λ j is. by j is (prefix.from j is) } where
+    pends_here : pending ≡ pending_with recording.schema size (recorded_end state role) [] puts
+    pends_here = pends ∙ ap (λ (e : End). pending_with recording.schema size e [] puts) here
+    steps_of : ℕ → List ExportStep
+    steps_of count = map AddsEvents (map (commit_of role) (take count (pending_with recording.schema size (recorded_end state role) [] puts)))
+    whole : (j before : Image) (count : ℕ) → ImagesOf old before → shelf_in j ≡ after_all shelf_after (shelf_in before) (take count (map (commit_of role) pending))
+        → exports_in recording.schema j ≡ after_all export_step (exports_in recording.schema (mixed recording.schema before j)) (steps_of count)
+    whole j before count was reads_on =
+        let xs = take count (pending_with recording.schema size (recorded_end state role) [] puts) in
+        let i = mixed recording.schema before j in
+        let made : shelf_in j ≡ after_all shelf_after (shelf_in before) (map (commit_of role) xs) =
+        reads_on ∙ ap (after_all shelf_after (shelf_in before)) (take_map (commit_of role) count pending ∙ ap (λ p. map (commit_of role) (take count p)) pends_here) in
+        let same = shelf_agrees before i (mixed_queue recording.schema before j) in
+        sym (steps_are_commits (exports_in recording.schema i) (map (commit_of role) xs)
+        ∙ ap (λ (s : Shelf). record { shelf = s; snapshots = (exports_in recording.schema i).snapshots })
+            (ap (λ (s : Shelf). after_all shelf_after s (map (commit_of role) xs)) same ∙ sym made)
+        ∙ ap (λ (snapshots : List (List ℕ)). record { shelf = shelf_in j; snapshots = snapshots })
+            (sym (same_snapshots recording.schema role state old reads xs before j was made)))
+    by : (j : Image) → ImagesOf new j → From (SomeFirst (Does shelf_in shelf_after) (map (commit_of role) pending)) (ImagesOf old) j
+        → From (λ i k. Reaches export_step (MayExport recording) (exports_in recording.schema i) (exports_in recording.schema k)) (ImagesOf old) j
+    by j is from =
+        let i = mixed recording.schema from.before j in
+        let was : ImagesOf old i = mixed_was recording.schema from.before j others from.was is in
+        record {
+          before = i;
+          was = was;
+          by = record {
+            steps = steps_of from.by.0;
+            lawful = lawful_at i was from.by.0 may (subst (λ (e : End). MayFollowInTurn recording.schema role size e puts) here follows)
+                (subst (λ (p : List Added). allowed_after state (map (entry_of role) p) ≡ true) pends_here allowed) next;
+            ends = whole j from.before from.by.0 from.was from.by.1;
+          };
+        }

@@ -1,7 +1,7 @@
 -- What a change of the files of the queue does to an export disk as it reads: the snapshots stay.
 use Rattle.std.specs.Prelude.{◌≡◌, ◌≢◌, ◌⊎◌, ℕ, suc, Bool, true, false, List, [], ◌∷◌, ◌++◌, Option, Some, None, codes, length, map, slice_get, take}
 use Rattle.std.specs.Option.{option_map}
-use Rattle.std.proofs.Common.{inl, inr, refl, sym, ap, subst, ◌∙◌, append_assoc}
+use Rattle.std.proofs.Common.{arith, inl, inr, refl, sym, ap, subst, ◌∙◌, append_assoc}
 use Rattle.voy_disk.specs.Calls.{Change, told, untold}
 use Rattle.voy_disk.specs.File.{File}
 use Rattle.voy_disk.specs.Files.{Files}
@@ -52,7 +52,7 @@ shelf_agrees i k agrees =
     ∙ ap (λ (segments : List (List ℕ)). record { records = records_in i; segments = segments }) (segments_agree i k (records_in i) agrees)
 
 -- the second byte of the bytes; 0 where there is none
-second : List ℕ → ℕ
+abbrev second : List ℕ → ℕ
 second [] = 0
 second (a ∷ []) = 0
 second (a ∷ b ∷ rest) = b
@@ -70,9 +70,9 @@ unfolding segment_name
 second_of_segment number = refl
 
 apart : (a b : List ℕ) → second a ≡ 110 → second b ≡ 101 → a ≢ b
-apart a b n e same = by (sym n ∙ ap second same ∙ e) where
-  by : 110 ≡ 101 → ⊥
-  by never = grind (arith, never)
+apart a b n e same = off (sym n ∙ ap second same ∙ e) where
+  off : ◌≡◌ {A = ℕ} 110 101 → ⊥
+  off never = grind (arith, never)
 
 no_meta : (table : Table) → snapshot_file table ≢ meta_name
 no_meta table = apart (snapshot_file table) meta_name (second_of_snapshot table) second_of_meta

@@ -1,6 +1,7 @@
 //! Exports: the recorded rows into snapshot files, and the recorded changes into the queue.
 #![tactic(auto)]
 
+mod changes;
 mod committing;
 mod error;
 mod exported;
@@ -9,7 +10,9 @@ mod laws;
 mod limits;
 mod names;
 mod plan;
+mod turns;
 
+pub use changes::export_changes;
 pub use error::{ExportError, Which, Why};
 pub use exported::Exported;
 pub use laws::{commits_are_lawful, exports_are_next, steps_keep_sound};
