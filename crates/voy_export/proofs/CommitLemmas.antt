@@ -1,10 +1,11 @@
 -- What a commit leaves of an export disk, as it reads.
 use Rattle.std.specs.Prelude.{◌≡◌, ◌≢◌, ℕ, zero, suc, Bool, true, false, List, [], ◌∷◌, ◌++◌, Option, Some, None, length, map, take}
 use Rattle.std.specs.Option.{option_map}
-use Rattle.std.proofs.Common.{append_assoc, append-nil, refl, sym, ap, subst, ◌∙◌}
+use Rattle.std.proofs.Common.{append_assoc, append-nil, inl, inr, refl, sym, ap, subst, ◌∙◌}
 use Rattle.voy_disk.specs.Calls.{Change}
 use Rattle.voy_disk.specs.Files.{Files}
-use Rattle.voy_disk.specs.Frames.{KeepsBeside}
+use Rattle.voy_disk.specs.FrameLaws.{files_beside_more}
+use Rattle.voy_disk.specs.Frames.{KeepsBeside, OneOf}
 use Rattle.voy_disk.specs.Images.{Image, ImagesOf}
 use Rattle.voy_disk.specs.Steps.{Does, Every, Follows, From, Goes, Lawful, LeavesPrefix, Reaches, SomeFirst, after_all}
 use Rattle.voy_export.proofs.ShelfLemmas.{entries_are_queue, mixed, mixed_contents, mixed_queue, mixed_was, shelf_agrees, snapshots_stay, steps_are_commits}
@@ -22,6 +23,8 @@ use Rattle.voy_meta.specs.State.{empty_state, state_of}
 use Rattle.voy_meta.specs.declared.record.MetaRecord.{MetaRecord}
 use Rattle.voy_meta.specs.declared.state.MetaState.{MetaState}
 use Rattle.voy_queue.specs.Laws.{ArePut, FirstPartIsPut, StandsAsItself}
+use Rattle.voy_queue.specs.Commit.{names_of}
+use Rattle.voy_queue.specs.Names.{segment_name}
 use Rattle.voy_queue.specs.Putting.{MayFollowInTurn, Put, commit_of, entry_of, pending_with, recorded_end, shelf_with}
 use Rattle.voy_queue.specs.Shelf.{Commits, Shelf, StandsAs, shelf_after, shelf_in}
 use Rattle.voy_queue.specs.declared.end.Added.{Added}
@@ -34,6 +37,18 @@ take_map : {A B : Type 0} (f : A → B) (n : ℕ) (xs : List A) → take n (map 
 take_map f zero xs = refl
 take_map f (suc n) [] = refl
 take_map f (suc n) (x ∷ xs) = ap (λ rest. f x ∷ rest) (take_map f n xs)
+
+-- the files of a commit are files of the queue
+names_are_queue : (pending : List Added) (name : List ℕ) → OneOf (names_of pending) name → IsQueueFile name
+names_are_queue pending name (inl is) = inl is
+names_are_queue pending name (inr one) = segments pending one where
+  segments : (pending : List Added) → OneOf (map (λ (one : Added). segment_name one.end.number) pending) name → IsQueueFile name
+  segments [] none = absurd none
+  segments (one ∷ more) (inl is) = inr (one.end.number, is)
+  segments (one ∷ more) (inr other) = segments more other
+
+pub queue_files : (pending : List Added) {old new : Option Files} → Change (KeepsBeside (OneOf (names_of pending))) old new → Change (KeepsBeside IsQueueFile) old new
+queue_files pending keeps = files_beside_more (OneOf (names_of pending)) IsQueueFile (names_are_queue pending) keeps
 
 -- the snapshots that are read with Queue records more
 snapshots_more : (schema : List Table) (image : Image) (records : Option (List MetaRecord)) (entries more : List MetaRecord) → AreQueueRecords more
