@@ -1,9 +1,15 @@
 ghost use Rattle.voy_export.specs.Laws.{CommitsAreLawful, ExportsAreNext, StepsKeepSound};
 
+use voy_meta::{records_join, records_say};
+
 /// Law: each step of an export that may be done keeps the export disk sound.
 pub fn steps_keep_sound()
     ensures { StepsKeepSound }
-{}
+{
+    // The laws of records; there is nothing to run.
+    records_join();
+    records_say();
+}
 
 /// Law: what an export adds to a sound disk are the next events of the whole queue.
 pub fn exports_are_next()
