@@ -1,3 +1,5 @@
 pub mod PlaceLemmas
 pub mod StateLemmas
 pub mod SoundLemmas
+pub mod PutLemmas
+pub mod LawfulLemmas

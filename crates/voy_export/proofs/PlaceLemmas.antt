@@ -1,5 +1,5 @@
 -- Places and cutovers among the first events of the whole queue, and those behind them.
-use Rattle.std.proofs.Common.{◌≡◌, ◌≤◌, ◌∷◌, ◌++◌, ℕ, true, false, List, [], refl, sym, ap, ◌∙◌}
+use Rattle.std.proofs.Common.{◌≡◌, ◌≤◌, ◌∷◌, ◌++◌, ℕ, Bool, true, false, List, [], refl, sym, ap, ◌∙◌}
 use Rattle.std.proofs.lemmas.Bool.{and_parts}
 use Rattle.std.proofs.lemmas.List.{take-append-drop, take-take}
 use Rattle.std.proofs.lemmas.List.Folds.{list_any-append}
@@ -30,6 +30,10 @@ place_on who before (put ∷ xs) ys = place_on who (if is_role put.event.role wh
 
 pub cutover_on : (who : Role) (xs ys : List Put) → has_cutover who (xs ++ ys) ≡ (has_cutover who xs || has_cutover who ys)
 cutover_on who xs ys = list_any-append (λ (put : Put). is_role put.event.role who && ends_part put.event) xs ys
+
+pub or_none : (b : Bool) → (b || false) ≡ b
+or_none true = refl
+or_none false = refl
 
 -- who is one exporter is not the other
 other_role : (a b c : Role) → is_role a b ≡ true → is_role c b ≡ false → is_role a c ≡ false

@@ -1,6 +1,7 @@
 ghost use Rattle.voy_export.specs.Laws.{CommitsAreLawful, ExportsAreNext, StepsKeepSound};
 
 use voy_meta::{records_join, records_say};
+use voy_queue::{puts_are_behind, written_reads_back};
 
 /// Law: each step of an export that may be done keeps the export disk sound.
 pub fn steps_keep_sound()
@@ -19,4 +20,10 @@ pub fn exports_are_next()
 /// Law: the next events, put behind a sound queue and committed, are steps that may be done.
 pub fn commits_are_lawful()
     ensures { CommitsAreLawful }
-{}
+{
+    // The laws of the queue and of records; there is nothing to run.
+    puts_are_behind();
+    written_reads_back();
+    records_join();
+    records_say();
+}
