@@ -5,7 +5,7 @@ use Rattle.std.proofs.lemmas.List.{drop-drop, drop-take, length-take, take-take}
 use Rattle.std.specs.List.{list_all}
 use Rattle.std.specs.Prelude.{◌&&◌, ◌||◌, Option, Some, None, if◌then◌else◌}
 use Rattle.voy_event.specs.Events.{ends_part}
-use Rattle.voy_export.proofs.PlaceLemmas.{AreBy}
+use Rattle.voy_export.proofs.PlaceLemmas.{AreBy, or_none}
 use Rattle.voy_export.specs.Laws.{AreNext}
 use Rattle.voy_export.specs.Recording.{Recording, whole_queue}
 use Rattle.voy_export.specs.Steps.{first_puts, has_cutover, place_in, puts_between}
@@ -80,10 +80,7 @@ module _ (schema : List Table) (size : ℕ) where
     pub cutover_by : (puts : List Put) (end : End) (k : ℕ) → MayFollowInTurn schema who size end puts → k < length puts
         → has_cutover who (drop k puts) ≡ (ended_by schema size end puts).ended
     cutover_by [] end k may low = absurd (omega arith)
-    cutover_by (put ∷ []) end zero may low = ap (λ is. (is && ends_part put.event) || false) (ap (λ r. is_role r who) may.0.exporter ∙ same_role who) ∙ or_none (ends_part put.event) where
-      or_none : (b : Bool) → (b || false) ≡ b
-      or_none true = refl
-      or_none false = refl
+    cutover_by (put ∷ []) end zero may low = ap (λ is. (is && ends_part put.event) || false) (ap (λ r. is_role r who) may.0.exporter ∙ same_role who) ∙ or_none (ends_part put.event)
     cutover_by (put ∷ []) end (suc k) may low = absurd (omega arith)
     cutover_by (put ∷ next ∷ puts) end zero may low =
         none (is_role put.event.role who) (ends_part put.event) may.1.0.goes_on

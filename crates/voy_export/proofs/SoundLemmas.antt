@@ -5,7 +5,7 @@ use Rattle.std.proofs.lemmas.List.{length_push, map_push, take_more}
 use Rattle.std.proofs.lemmas.Option.{get_or_from_slice_get, slice_get_within}
 use Rattle.std.specs.Option.{option_map}
 use Rattle.std.specs.Prelude.{◌||◌, get_or, slice_get}
-use Rattle.voy_export.proofs.PlaceLemmas.{AreBy, cutover_none, cutover_on, first_on, place_on, place_same}
+use Rattle.voy_export.proofs.PlaceLemmas.{AreBy, cutover_none, cutover_on, first_on, or_none, place_on, place_same}
 use Rattle.voy_export.proofs.StateLemmas.{ended_other, ended_same, last_after, spot_other, spot_same}
 use Rattle.voy_export.specs.Exports.{Exports}
 use Rattle.voy_export.specs.Laws.{StepsKeepSound}
@@ -176,10 +176,6 @@ module _ (recording : Recording) (state : MetaState) (number bytes vsn : ℕ) (w
         ∙ ap (λ b. b || ended) (ends who)
         ∙ ap (λ b. has_cutover who (first_puts recording (last_vsn state)) || b) end
         ∙ sym (cutover_split who)
-
-    or_none : (b : Bool) → (b || false) ≡ b
-    or_none true = refl
-    or_none false = refl
 
     end_other : (other : Role) → is_role other who ≡ false → is_ended other later ≡ has_cutover other (first_puts recording vsn)
     end_other other apart =
