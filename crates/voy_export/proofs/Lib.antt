@@ -3,3 +3,4 @@ pub mod StateLemmas
 pub mod SoundLemmas
 pub mod PutLemmas
 pub mod LawfulLemmas
+pub mod NextLemmas

@@ -1,5 +1,6 @@
 ghost use Rattle.voy_export.specs.Laws.{CommitsAreLawful, ExportsAreNext, StepsKeepSound};
 
+use voy_feed::kept_go_on;
 use voy_meta::{records_join, records_say};
 use voy_queue::{puts_are_behind, written_reads_back};
 
@@ -15,7 +16,10 @@ pub fn steps_keep_sound()
 /// Law: what an export adds to a sound disk are the next events of the whole queue.
 pub fn exports_are_next()
     ensures { ExportsAreNext }
-{}
+{
+    // The law of kept changes; there is nothing to run.
+    kept_go_on();
+}
 
 /// Law: the next events, put behind a sound queue and committed, are steps that may be done.
 pub fn commits_are_lawful()
