@@ -1,3 +1,7 @@
+pub mod EndLemmas
+pub mod GatherLemmas
+pub mod ShelfLemmas
+pub mod CommitLemmas
 pub mod PlaceLemmas
 pub mod StateLemmas
 pub mod SoundLemmas

@@ -8,3 +8,4 @@ pub mod Calls
 pub mod Errors
 pub mod Turns
 pub mod Laws
+pub mod Put

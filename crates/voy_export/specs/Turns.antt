@@ -1,11 +1,15 @@
 -- What the turns of an export of changes come to.
-use Rattle.std.specs.Prelude.{◌≡◌, ℕ, Bool, List, [], ◌∷◌, ◌++◌, take}
+use Rattle.std.specs.Prelude.{◌≡◌, ℕ, suc, ◌-◌, Bool, true, false, List, [], ◌∷◌, ◌++◌, Option, Some, None}
 use Rattle.voy_disk.specs.Files.{Files}
-use Rattle.voy_disk.specs.Images.{Image}
-use Rattle.voy_export.specs.Ends.{ChangesEnd, Stop, changes_end, finished}
+use Rattle.voy_export.specs.Ends.{ChangesEnd, Stop, changes_end, finished, has_number, stop_at}
 use Rattle.voy_export.specs.Errors.{stop_told}
-use Rattle.voy_export.specs.Exports.{Exports, exports_in}
 use Rattle.voy_export.specs.declared.plan.Plan.{Plan}
+use Rattle.voy_event.specs.declared.event.What.{What}
+use Rattle.voy_export.specs.declared.plan.Refusal.{Refusal}
+use Rattle.voy_export.specs.declared.plan.Refusal.TheVariants.{Limit}
+use Rattle.voy_feed.specs.declared.error.FeedError.{FeedError}
+use Rattle.voy_feed.specs.declared.error.FeedError.TheVariants as feed
+use Rattle.voy_tables.specs.declared.change.Spot.{Spot}
 use Rattle.voy_export.specs.declared.plan.Step.{Step}
 use Rattle.voy_export.specs.declared.plan.Step.TheVariants.{Finished, Put, Stopped}
 use Rattle.voy_feed.specs.Feed.{changes_left, last_kept}
@@ -13,13 +17,9 @@ use Rattle.voy_feed.specs.Kept.{ChangeReading, change_file, kept_reading}
 use Rattle.voy_feed.specs.declared.feed.Feed.{Feed}
 use Rattle.voy_feed.specs.declared.keep.Keep.{Keep}
 use Rattle.voy_queue.specs.Putting as putting
-use Rattle.voy_queue.specs.Putting.{MayFollowInTurn, commit_of, end_of, pending_with}
-use Rattle.voy_queue.specs.Shelf.{Shelf, shelf_after}
+use Rattle.voy_queue.specs.Putting.{MayFollow, MayFollowInTurn, end_after, pending_after, pending_with}
 use Rattle.voy_queue.specs.Writer.{closing_size, committed_end, pending, writer_end, writer_role}
-use Rattle.voy_queue.specs.declared.end.End.{End}
 use Rattle.voy_queue.specs.declared.writer.Writer.{Writer}
-use Rattle.voy_disk.specs.Steps.{after_all}
-use Rattle.std.specs.Prelude.{map}
 use Rattle.voy_schema.specs.declared.table.Table.{Table}
 use Rattle.voy_tables.specs.declared.change.Role.{Role}
 
@@ -31,6 +31,11 @@ kept_left schema feed keep files = kept_reading (last_kept keep) (changes_left s
 abbrev pub end_left : List Table → Writer → Plan → ChangeReading → ChangesEnd
 end_left schema writer plan reading =
     changes_end schema (closing_size writer) (change_file (writer_role writer)) (writer_role writer) (writer_end writer) plan.left plan.end reading
+
+-- one change fewer
+abbrev pub one_less : Option ℕ → Option ℕ
+one_less None = None
+one_less (Some max) = Some (max - 1)
 
 -- nothing more, for this cause
 abbrev pub at_stop : Stop → ChangesEnd
@@ -52,27 +57,28 @@ pub record Gathers (schema : List Table) (old new : Writer) (before after : Chan
   pub pends : pending new ≡ pending_with schema (closing_size old) (committed_end old) (pending old) puts
   pub may : MayFollowInTurn schema (writer_role old) (closing_size old) (writer_end old) puts
 
--- the end behind puts that were committed
-abbrev pub end_behind : List Table → (size : ℕ) → End → List putting.Put → End
-end_behind schema size end puts = end_of end (pending_with schema size end [] puts)
+-- the next event behind what was put
+abbrev pub next_put : Writer → What → Option Spot → putting.Put
+next_put writer what spot = record { event = record { vsn = suc (writer_end writer).last_vsn; role = writer_role writer; what = what }; spot = spot }
 
--- the shelf with puts committed at once
-abbrev pub shelf_with : List Table → Role → (size : ℕ) → Shelf → End → List putting.Put → Shelf
-shelf_with schema role size shelf end puts = after_all shelf_after shelf (map (commit_of role) (pending_with schema size end [] puts))
+-- an event was put behind what was pending; or, where no vsn or segment is left for it, none was
+pub record PutsOne (schema : List Table) (old new : Writer) (put : putting.Put) : Type 0 where
+  pub number : has_number (writer_end old) ≡ true
+  pub pends : pending new ≡ pending_after schema (closing_size old) (committed_end old) (pending old) put.event put.spot
+  pub end : writer_end new ≡ end_after schema (closing_size old) (writer_end old) put.event put.spot
+  pub may : MayFollow schema (writer_role old) (writer_end old) put.event put.spot
 
--- the shelf with puts committed in these parts, one after the other
-abbrev pub in_parts : List Table → Role → (size : ℕ) → Shelf → End → List (List putting.Put) → Shelf
-in_parts schema role size shelf end [] = shelf
-in_parts schema role size shelf end (part ∷ parts) =
-    in_parts schema role size (shelf_with schema role size shelf end part) (end_behind schema size end part) parts
+pub record PutsNone (old new : Writer) (line : ℕ) (refusal : Refusal) : Type 0 where
+  pub number : has_number (writer_end old) ≡ false
+  pub same : new ≡ old
+  pub is : refusal ≡ Limit (change_file (writer_role old)) line
 
-abbrev pub join : List (List putting.Put) → List putting.Put
-join [] = []
-join (part ∷ parts) = part ++ join parts
+abbrev pub Puts : List Table → (old new : Writer) → (line : ℕ) → putting.Put → Step → Type 0
+Puts schema old new line put Put = PutsOne schema old new put
+Puts schema old new line put Finished = ⊥
+Puts schema old new line put (Stopped refusal) = PutsNone old new line refusal
 
--- an image has these puts more, committed in some parts, and the same snapshots
-pub record HasParts (schema : List Table) (role : Role) (size : ℕ) (end : End) (puts : List putting.Put) (i j : Image) : Type 0 where
-  pub parts : List (List putting.Put)
-  pub joins : join parts ≡ puts
-  pub shelf : (exports_in schema j).shelf ≡ in_parts schema role size (exports_in schema i).shelf end parts
-  pub snapshots : (exports_in schema j).snapshots ≡ (exports_in schema i).snapshots
+-- the step that an error of the feed comes to, where it is a line without a reading
+abbrev pub StopsAt : Role → FeedError → Step → Type 0
+StopsAt role (feed.Line line why) (Stopped refusal) = stop_told refusal ≡ stop_at (change_file role) line why
+StopsAt role error step = ⊥

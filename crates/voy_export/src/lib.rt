@@ -1,6 +1,7 @@
 //! Exports: the recorded rows into snapshot files, and the recorded changes into the queue.
 #![tactic(auto)]
 
+mod committing;
 mod error;
 mod exported;
 mod gathering;

@@ -11,6 +11,36 @@ pub(crate) struct Plan {
     pub end: bool,
 }
 
+impl Plan {
+    ghost use Rattle.std.specs.Prelude.{◌≡◌, not};
+    ghost use Rattle.voy_export.specs.Ends.{reads_on};
+    ghost use Rattle.voy_export.specs.Turns.{one_less};
+
+    /// Whether nothing is left to do, so that no further line is to be read.
+    pub fn is_over(self) -> bool
+        ensures { result ≡ not (reads_on self.left self.end 0) }
+    {
+        match self.left {
+            None => false,
+            Some(left) => left == 0 && !self.end,
+        }
+    }
+
+    /// What is left to do behind one change more.
+    pub fn after_change(self) -> Plan
+        ensures left { result.left ≡ one_less self.left }
+        ensures end { result.end ≡ self.end }
+    {
+        match self.left {
+            None => self,
+            Some(left) => Plan {
+                left: Some(left.saturating_sub(1)),
+                end: self.end,
+            },
+        }
+    }
+}
+
 /// What was refused.
 #[derive(Debug, Drop)]
 pub(crate) enum Refusal {

@@ -3,10 +3,13 @@ mod AskingLemmas
 mod CommitLemmas
 mod CommitLoop
 mod CountLemmas
+mod EndLemmas
 mod FeedLemmas
 mod FirstLemmas
 mod FoundLemmas
 mod HeldLemmas
+mod JoinLemmas
+mod JoinedShelves
 mod LineLemmas
 mod MadeLemmas
 mod NameLemmas

@@ -133,19 +133,29 @@ not_is : (a : Bool) → not a ≡ true → a ≡ false
 not_is true is = cc
 not_is false is = refl
 
-pub end_recorded : (state : MetaState) (role : Role) (one : Added) → writes state role ≡ true → IsBehind (recorded_end state role) one
+-- where the segment is there, or comes next
+pub end_at_record : (state : MetaState) (role : Role) (one : Added) → writes state role ≡ true → one.end.number ≤ length state.segments
     → recorded_end (after_record state (entry_of role one)) role ≡ one.end
 unfolding after_record
-end_recorded state role.Source one may behind =
-    let size = length-take-le one.end.number state.segments (number_within state role.Source one behind) in
+end_at_record state role.Source one may low =
+    let size = length-take-le one.end.number state.segments low in
     end_by one.end.spot (state.ended_source || one.end.ended) (take one.end.number state.segments) one.end.number (recorded_segment role.Source one) size
     ∙ ap (λ ended. record { number = one.end.number; bytes = one.end.bytes; last_vsn = one.end.last_vsn; spot = one.end.spot; closed = one.end.closed; ended = ended })
     (or_is state.ended_source one.end.ended (not_is state.ended_source may))
-end_recorded state role.Target one may behind =
-    let size = length-take-le one.end.number state.segments (number_within state role.Target one behind) in
+end_at_record state role.Target one may low =
+    let size = length-take-le one.end.number state.segments low in
     end_by one.end.spot (state.ended_target || one.end.ended) (take one.end.number state.segments) one.end.number (recorded_segment role.Target one) size
     ∙ ap (λ ended. record { number = one.end.number; bytes = one.end.bytes; last_vsn = one.end.last_vsn; spot = one.end.spot; closed = one.end.closed; ended = ended })
     (or_is state.ended_target one.end.ended (not_is state.ended_target (and_parts _ _ (and_parts _ _ may).1).1))
+
+pub end_recorded : (state : MetaState) (role : Role) (one : Added) → writes state role ≡ true → IsBehind (recorded_end state role) one
+    → recorded_end (after_record state (entry_of role one)) role ≡ one.end
+end_recorded state role one may behind = end_at_record state role one may (number_within state role one behind)
+
+-- only the exporter that writes has a record allowed
+pub writes_where_allowed : (state : MetaState) (role : Role) (one : Added) → is_allowed state (entry_of role one) ≡ true → writes state role ≡ true
+unfolding is_allowed
+writes_where_allowed state role one allowed = (and_parts _ _ (and_parts _ _ (and_parts _ _ allowed).1).1).0
 
 pub snapshot_stays : (state : MetaState) (role : Role) (one : Added) → has_snapshot state ≡ true → has_snapshot (after_record state (entry_of role one)) ≡ true
 unfolding after_record

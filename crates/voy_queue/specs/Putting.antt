@@ -1,5 +1,6 @@
 -- What a writer makes of events: segments that are closed by size, or behind a cutover.
-use Rattle.std.specs.Prelude.{◌≡◌, ◌≤◌, ◌<◌, ℕ, suc, ◌+◌, ◌-◌, Bool, true, false, ◌||◌, List, [], ◌∷◌, ◌++◌, Option, Some, None, is_some, length, nat_le, if◌then◌else◌}
+use Rattle.std.specs.Prelude.{◌≡◌, ◌≤◌, ◌<◌, ℕ, suc, ◌+◌, ◌-◌, Bool, true, false, ◌||◌, List, [], ◌∷◌, ◌++◌, Option, Some, None, is_some, length, map, nat_le, if◌then◌else◌}
+use Rattle.voy_disk.specs.Steps.{after_all}
 use Rattle.voy_event.specs.EventLine.{max_event_line_bytes}
 use Rattle.voy_event.specs.Events.{ends_part, is_change}
 use Rattle.voy_event.specs.LawfulEvent.{IsLawful}
@@ -7,13 +8,14 @@ use Rattle.voy_event.specs.LineText.{line_text}
 use Rattle.voy_event.specs.declared.event.Event.{Event}
 use Rattle.voy_meta.specs.Allowed.{is_within, spot_follows}
 use Rattle.voy_meta.specs.Sides.{is_ended, last_of, last_segment}
+use Rattle.voy_meta.specs.State.{state_of}
 use Rattle.voy_meta.specs.declared.limits.TheConstants.{MAX_SEGMENT, MAX_VSN}
 use Rattle.voy_meta.specs.declared.record.MetaRecord.{MetaRecord}
 use Rattle.voy_meta.specs.declared.record.MetaRecord.TheVariants.{Queue}
 use Rattle.voy_meta.specs.declared.state.MetaState.{MetaState}
 use Rattle.voy_meta.specs.declared.state.SegmentState.{SegmentState}
 use Rattle.voy_queue.specs.Lines.{closing_bytes, event_bytes}
-use Rattle.voy_queue.specs.Shelf.{Commits}
+use Rattle.voy_queue.specs.Shelf.{Commits, Shelf, shelf_after}
 use Rattle.voy_queue.specs.declared.end.Added.{Added}
 use Rattle.voy_queue.specs.declared.end.End.{End}
 use Rattle.voy_schema.specs.declared.table.Table.{Table}
@@ -105,6 +107,25 @@ abbrev pub pending_with : List Table → (max_bytes : ℕ) → End → List Adde
 pending_with schema max_bytes end pending [] = pending
 pending_with schema max_bytes end pending (put ∷ puts) =
     pending_with schema max_bytes end (pending_after schema max_bytes end pending put.event put.spot) puts
+
+-- where the queue ends with these puts
+abbrev pub end_behind : List Table → (max_bytes : ℕ) → End → List Put → End
+end_behind schema max_bytes end puts = end_of end (pending_with schema max_bytes end [] puts)
+
+-- the same put by put
+abbrev pub end_with : List Table → (max_bytes : ℕ) → End → List Put → End
+end_with schema max_bytes end [] = end
+end_with schema max_bytes end (put ∷ puts) = end_with schema max_bytes (end_after schema max_bytes end put.event put.spot) puts
+
+-- the shelf with these puts committed at once
+abbrev pub shelf_with : List Table → Role → (max_bytes : ℕ) → Shelf → End → List Put → Shelf
+shelf_with schema role max_bytes shelf end puts =
+    after_all shelf_after shelf (map (commit_of role) (pending_with schema max_bytes end [] puts))
+
+-- the next line goes into a segment that is there, or into the one that comes next
+pub record HasRoom (end : End) (shelf : Shelf) : Type 0 where
+  pub contents : (room_for end).number ≤ length shelf.segments
+  pub states : (entries : List MetaRecord) → shelf.records ≡ Some entries → (room_for end).number ≤ length (state_of entries).segments
 
 -- an event that may be put behind this end: the next one, by this exporter, not behind its cutover, within the limits, and with a place
 -- just for a change, which does not stand in front of the last one

@@ -1,5 +1,5 @@
 -- What an export disk holds of the queue, as it reads: the records of the metadata, and the committed bytes of each recorded segment.
-use Rattle.std.specs.Prelude.{ℕ, suc, List, [], ◌∷◌, ◌++◌, Option, Some, None, slice_get, take}
+use Rattle.std.specs.Prelude.{◌≡◌, ℕ, suc, List, [], ◌∷◌, ◌++◌, Option, Some, None, slice_get, take}
 use Rattle.std.specs.Option.{option_map, unwrap_or}
 use Rattle.voy_disk.specs.Images.{Image, bytes_in}
 use Rattle.voy_meta.specs.Meta.{records_in}
@@ -26,6 +26,11 @@ segments_in image (Some entries) = committed image 0 (state_of entries).segments
 -- where the metadata do not read there are no segments
 abbrev pub shelf_in : Image → Shelf
 shelf_in image = record { records = records_in image; segments = segments_in image (records_in image) }
+
+-- two shelves have records that come to the same state, and the same committed bytes
+pub record StandsAs (a b : Shelf) : Type 0 where
+  pub state : option_map state_of a.records ≡ option_map state_of b.records
+  pub segments : a.segments ≡ b.segments
 
 -- a record of a segment, with the bytes that it makes committed beside those that were
 pub record Commits : Type 0 where

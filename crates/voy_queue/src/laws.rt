@@ -1,4 +1,4 @@
-ghost use Rattle.voy_queue.specs.Laws.{EventsAreCounted, FirstPartIsPut, LinesAreCounted, ShelvesAreRead, WrittenReadsBack};
+ghost use Rattle.voy_queue.specs.Laws.{EndIsRecorded, EndIsRecordedInTurn, EndsWithPuts, EventsAreCounted, FirstPartIsPut, FollowsJoin, FollowsPart, LinesAreCounted, PendingJoins, PutsJoin, ReadsAlike, RecordsWith, RoomGoesOn, RoomIsThere, ShelvesAreRead, StandsAlikeWith, StandsAsInTurn, StandsAsItself, StandsAsTurned, WrittenReadsBack};
 ghost use Rattle.voy_queue.specs.PuttingLaws.{AreBehindLaw, EndsWithPut};
 
 use voy_event::{events_read_back, lines_stand_in_segments};
@@ -39,4 +39,33 @@ pub fn events_are_counted()
 /// to run.
 pub fn lines_are_counted()
     ensures { LinesAreCounted }
+{}
+
+/// Law: how often a writer commits changes nothing but the number of records. Puts committed in two parts leave a shelf that stands as the
+/// one with all of them committed at once; such shelves stay so with the same puts more, and have the same queue. There is nothing to run.
+pub fn puts_join()
+    ensures join { PutsJoin }
+    ensures alike { StandsAlikeWith }
+    ensures itself { StandsAsItself }
+    ensures turned { StandsAsTurned }
+    ensures turn { StandsAsInTurn }
+    ensures reads { ReadsAlike }
+    ensures room { RoomIsThere }
+    ensures more_room { RoomGoesOn }
+    ensures records { RecordsWith }
+{}
+
+/// Law: puts in two parts are pending as all of them are, may follow in turn where both parts may, and end put by put. There is nothing
+/// to run.
+pub fn puts_go_on()
+    ensures pending { PendingJoins }
+    ensures ends { EndsWithPuts }
+    ensures follows { FollowsJoin }
+    ensures parts { FollowsPart }
+{}
+
+/// Law: where puts are committed, the recorded end of the queue is the end behind them. There is nothing to run.
+pub fn ends_are_recorded()
+    ensures allowed { EndIsRecorded }
+    ensures turn { EndIsRecordedInTurn }
 {}

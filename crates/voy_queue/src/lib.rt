@@ -26,7 +26,8 @@ mod writer_open;
 pub use end::{Added, End, Pending};
 pub use error::QueueError;
 pub use laws::{
-    events_are_counted, lines_are_counted, puts_are_behind, shelves_are_read, written_reads_back,
+    ends_are_recorded, events_are_counted, lines_are_counted, puts_are_behind, puts_go_on,
+    puts_join, shelves_are_read, written_reads_back,
 };
 pub use reader::Reader;
 pub use writer::Writer;
