@@ -8,7 +8,7 @@ use Rattle.std.specs.Prelude.{◌⊎◌, Option, Some, None}
 use Rattle.voy_disk.specs.Images.{Image}
 use Rattle.voy_disk.specs.Steps.{Lawful, after_all}
 use Rattle.voy_export.proofs.PlaceLemmas.{place_on}
-use Rattle.voy_export.proofs.PutLemmas.{are_by, between_next, by_behind, cutover_by, ended_by, first_with, may_first, next_first, pending_ends, same_first, spot_at, spot_by, vsn_at, vsn_by}
+use Rattle.voy_export.proofs.PutLemmas.{are_by, between_next, by_behind, cutover_by, first_with, may_first, next_first, same_first, spot_at, spot_by, vsn_at, vsn_by}
 use Rattle.voy_export.proofs.StateLemmas.{last_after}
 use Rattle.voy_export.specs.Exports.{Exports, exports_in}
 use Rattle.voy_export.specs.Laws.{AreNext, CommitsAreLawful}
@@ -24,9 +24,8 @@ use Rattle.voy_meta.specs.declared.record.MetaRecord.{MetaRecord}
 use Rattle.voy_meta.specs.declared.record.MetaRecord.TheVariants.{Queue}
 use Rattle.voy_meta.specs.declared.state.MetaState.{MetaState}
 use Rattle.voy_meta.specs.declared.state.SegmentState.{SegmentState}
-use Rattle.voy_queue.specs.Laws.{ArePut, FirstPartIsPut, WrittenReadsBack, events_of}
-use Rattle.voy_queue.specs.Putting.{MayFollowInTurn, Put, commit_of, end_of, entry_of, pending_with, recorded_end}
-use Rattle.voy_queue.specs.PuttingLaws.{EndsWithPut}
+use Rattle.voy_queue.specs.Laws.{ArePut, EndsWithPuts, FirstPartIsPut, WrittenReadsBack, events_of}
+use Rattle.voy_queue.specs.Putting.{MayFollowInTurn, Put, commit_of, end_of, end_with, entry_of, pending_with, recorded_end}
 use Rattle.voy_queue.specs.Reading.{reads_whole}
 use Rattle.voy_queue.specs.Shelf.{Shelf, shelf_after, shelf_in, shelf_reading}
 use Rattle.voy_queue.specs.declared.end.Added.{Added}
@@ -49,10 +48,10 @@ lawful_each recording who exports (one ∷ added) each = (
 )
 
 -- the shelf of these steps
-shelf_with : (who : Role) (exports : Exports) (added : List Added)
+shelf_of : (who : Role) (exports : Exports) (added : List Added)
     → (with_segments who exports added).shelf ≡ after_all shelf_after exports.shelf (map (commit_of who) added)
-shelf_with who exports [] = refl
-shelf_with who exports (one ∷ added) = shelf_with who (export_step exports (AddsEvents (commit_of who one))) added
+shelf_of who exports [] = refl
+shelf_of who exports (one ∷ added) = shelf_of who (export_step exports (AddsEvents (commit_of who one))) added
 
 after_on : (who : Role) (shelf : Shelf) (front : List Added) (one : Added)
     → after_all shelf_after shelf (map (commit_of who) (front ++ one ∷ [])) ≡ shelf_after (after_all shelf_after shelf (map (commit_of who) front)) (commit_of who one)
@@ -85,11 +84,11 @@ last_with who state end (one ∷ added) is =
     last_with who (after_record state (entry_of who one)) one.end added
     (last_after state one.end.number one.end.bytes one.end.last_vsn one.end.spot one.end.closed one.end.ended who)
 
-end_with : (end : End) (front : List Added) (one : Added) → end_of end (front ++ one ∷ []) ≡ one.end
-end_with end [] one = refl
-end_with end (x ∷ front) one = end_with x.end front one
+end_last : (end : End) (front : List Added) (one : Added) → end_of end (front ++ one ∷ []) ≡ one.end
+end_last end [] one = refl
+end_last end (x ∷ front) one = end_last x.end front one
 
-module _ (written : WrittenReadsBack) (first : FirstPartIsPut) (ends : EndsWithPut) (join : StatesJoin) (say : QueueRecordsSay)
+module _ (written : WrittenReadsBack) (first : FirstPartIsPut) (ends : EndsWithPuts) (join : StatesJoin) (say : QueueRecordsSay)
     (recording : Recording) (image : Image) (who : Role) (size : ℕ) (puts : List Put)
     (lawful : is_lawful recording.schema ≡ true) (sound : SoundExports recording (exports_in recording.schema image)) (may_write : writes (state_of sound.entries) who ≡ true)
     (may : MayFollowInTurn recording.schema who size (recorded_end (state_of sound.entries) who) puts)
@@ -106,10 +105,10 @@ module _ (written : WrittenReadsBack) (first : FirstPartIsPut) (ends : EndsWithP
 
     -- the end behind some first events
     abbrev end_by : ℕ → End
-    end_by m = ended_by recording.schema size end (take m puts)
+    end_by m = end_with recording.schema size end (take m puts)
 
     ends_here : (front : List Added) (m : ℕ) → front ≡ made (take m puts) → end_of end front ≡ end_by m
-    ends_here front m is = ap (end_of end) is ∙ pending_ends recording.schema size ends end [] (take m puts)
+    ends_here front m is = ap (end_of end) is ∙ ends recording.schema size end [] (take m puts)
 
     begins : end.last_vsn ≡ last_vsn state
     begins = vsn_at (last_of who state) (is_ended who state) (length state.segments) (last_segment state)
@@ -156,10 +155,10 @@ module _ (written : WrittenReadsBack) (first : FirstPartIsPut) (ends : EndsWithP
           ∙ behind.same
 
       end_is : one.end ≡ end_by behind.some
-      end_is = sym (end_with end front one) ∙ ends_here (front ++ one ∷ []) behind.some more_is
+      end_is = sym (end_last end front one) ∙ ends_here (front ++ one ∷ []) behind.some more_is
 
       vsn_is : one.end.last_vsn ≡ last_vsn state + length some
-      vsn_is = ap (λ (e : End). e.last_vsn) (sym (end_with end front one)) ∙ vsn_here (front ++ one ∷ []) behind.some more_is
+      vsn_is = ap (λ (e : End). e.last_vsn) (sym (end_last end front one)) ∙ vsn_here (front ++ one ∷ []) behind.some more_is
 
       may_some : MayFollowInTurn recording.schema who size end some
       may_some = may_first recording.schema size who behind.some puts end may
@@ -225,7 +224,7 @@ module _ (written : WrittenReadsBack) (first : FirstPartIsPut) (ends : EndsWithP
         ended = one.end.ended;
         entry_is = ap (λ spot. Queue one.end.number one.end.bytes one.end.last_vsn who spot one.end.closed one.end.ended) spot_is;
         reads =
-            ap (λ shelf. shelf_reading recording.schema (shelf_after shelf (commit_of who one))) (shelf_with who (exports_in recording.schema image) front)
+            ap (λ shelf. shelf_reading recording.schema (shelf_after shelf (commit_of who one))) (shelf_of who (exports_in recording.schema image) front)
             ∙ ap (shelf_reading recording.schema) (sym (after_on who (shelf_in image) front one))
             ∙ read_here (front ++ one ∷ []) behind.some more_is
             ∙ ap (λ n. reads_whole (events_of (first_puts recording n))) (sym vsn_is);
@@ -237,7 +236,7 @@ module _ (written : WrittenReadsBack) (first : FirstPartIsPut) (ends : EndsWithP
             ∙ sym (ap (has_cutover who) between_is ∙ cutover_by recording.schema size who some end fewer may_some strict);
       }
 
-pub commits_are_lawful : WrittenReadsBack → FirstPartIsPut → EndsWithPut → StatesJoin → QueueRecordsSay → CommitsAreLawful
+pub commits_are_lawful : WrittenReadsBack → FirstPartIsPut → EndsWithPuts → StatesJoin → QueueRecordsSay → CommitsAreLawful
 commits_are_lawful written first ends join say recording image who size puts count lawful sound may_write may allowed next =
     let all = pending_with recording.schema size (recorded_end (state_of sound.entries) who) [] puts in
     lawful_each recording who (exports_in recording.schema image) (take count all) (λ front one rest is.

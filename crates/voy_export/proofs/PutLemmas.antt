@@ -12,9 +12,7 @@ use Rattle.voy_export.specs.Steps.{first_puts, has_cutover, place_in, puts_betwe
 use Rattle.voy_meta.specs.Allowed.{vsn_before}
 use Rattle.voy_meta.specs.Sides.{is_role}
 use Rattle.voy_meta.specs.declared.state.SegmentState.{SegmentState}
-use Rattle.voy_queue.specs.Putting.{MayFollowInTurn, Put, end_after, end_at, end_of, newer, pending_after, pending_with}
-use Rattle.voy_queue.specs.PuttingLaws.{EndsWithPut}
-use Rattle.voy_queue.specs.declared.end.Added.{Added}
+use Rattle.voy_queue.specs.Putting.{MayFollowInTurn, Put, end_after, end_at, end_with, newer}
 use Rattle.voy_queue.specs.declared.end.End.{End}
 use Rattle.voy_schema.specs.declared.table.Table.{Table}
 use Rattle.voy_tables.specs.declared.change.Role.{Role}
@@ -25,11 +23,6 @@ pub same_role : (who : Role) → is_role who who ≡ true
 same_role role.Source = refl
 same_role role.Target = refl
 
--- the end behind all of these
-abbrev pub ended_by : List Table → (size : ℕ) → End → List Put → End
-ended_by schema size end [] = end
-ended_by schema size end (put ∷ puts) = ended_by schema size (end_after schema size end put.event put.spot) puts
-
 -- where the recorded queue ends
 pub vsn_at : (spot : Option Spot) (ended : Bool) (count : ℕ) (last : Option SegmentState) → (end_at spot ended count last).last_vsn ≡ vsn_before last
 vsn_at spot ended count None = refl
@@ -39,57 +32,48 @@ pub spot_at : (spot : Option Spot) (ended : Bool) (count : ℕ) (last : Option S
 spot_at spot ended count None = refl
 spot_at spot ended count (Some last) = refl
 
-module _ (schema : List Table) (size : ℕ) where
-  -- what is pending of them ends there
-  pub pending_ends : EndsWithPut → (end : End) (pending : List Added) (puts : List Put)
-      → end_of end (pending_with schema size end pending puts) ≡ ended_by schema size (end_of end pending) puts
-  pending_ends ends end pending [] = refl
-  pending_ends ends end pending (put ∷ puts) =
-      pending_ends ends end (pending_after schema size end pending put.event put.spot) puts
-      ∙ ap (λ e. ended_by schema size e puts) (ends schema size end pending put.event put.spot)
+module _ (schema : List Table) (size : ℕ) (who : Role) where
+  -- some first ones may be put as well
+  pub may_first : (m : ℕ) (puts : List Put) (end : End) → MayFollowInTurn schema who size end puts → MayFollowInTurn schema who size end (take m puts)
+  may_first zero puts end may = tt
+  may_first (suc m) [] end may = tt
+  may_first (suc m) (put ∷ puts) end may = (may.0, may_first m puts (end_after schema size end put.event put.spot) may.1)
 
-  module _ (who : Role) where
-    -- some first ones may be put as well
-    pub may_first : (m : ℕ) (puts : List Put) (end : End) → MayFollowInTurn schema who size end puts → MayFollowInTurn schema who size end (take m puts)
-    may_first zero puts end may = tt
-    may_first (suc m) [] end may = tt
-    may_first (suc m) (put ∷ puts) end may = (may.0, may_first m puts (end_after schema size end put.event put.spot) may.1)
+  -- each has the next vsn
+  pub vsn_by : (puts : List Put) (end : End) → MayFollowInTurn schema who size end puts → (end_with schema size end puts).last_vsn ≡ end.last_vsn + length puts
+  vsn_by [] end may = omega arith
+  vsn_by (put ∷ puts) end may =
+      let behind = vsn_by puts (end_after schema size end put.event put.spot) may.1 in
+      let next = may.0.next in
+      behind ∙ omega (arith, next)
 
-    -- each has the next vsn
-    pub vsn_by : (puts : List Put) (end : End) → MayFollowInTurn schema who size end puts → (ended_by schema size end puts).last_vsn ≡ end.last_vsn + length puts
-    vsn_by [] end may = omega arith
-    vsn_by (put ∷ puts) end may =
-        let behind = vsn_by puts (end_after schema size end put.event put.spot) may.1 in
-        let next = may.0.next in
-        behind ∙ omega (arith, next)
+  -- all are by the writer
+  pub are_by : (puts : List Put) (end : End) → MayFollowInTurn schema who size end puts → AreBy who puts
+  are_by [] end may = refl
+  are_by (put ∷ puts) end may =
+      and_from (is_role put.event.role who) _ (ap (λ r. is_role r who) may.0.exporter ∙ same_role who) (are_by puts (end_after schema size end put.event put.spot) may.1)
 
-    -- all are by the writer
-    pub are_by : (puts : List Put) (end : End) → MayFollowInTurn schema who size end puts → AreBy who puts
-    are_by [] end may = refl
-    are_by (put ∷ puts) end may =
-        and_from (is_role put.event.role who) _ (ap (λ r. is_role r who) may.0.exporter ∙ same_role who) (are_by puts (end_after schema size end put.event put.spot) may.1)
+  -- the last place is that of the last change
+  pub spot_by : (puts : List Put) (end : End) → MayFollowInTurn schema who size end puts → (end_with schema size end puts).spot ≡ place_in who end.spot puts
+  spot_by [] end may = refl
+  spot_by (put ∷ puts) end may =
+      spot_by puts (end_after schema size end put.event put.spot) may.1
+      ∙ ap (λ is. place_in who (if is then newer end.spot put.spot else end.spot) puts) (sym (ap (λ r. is_role r who) may.0.exporter ∙ same_role who))
 
-    -- the last place is that of the last change
-    pub spot_by : (puts : List Put) (end : End) → MayFollowInTurn schema who size end puts → (ended_by schema size end puts).spot ≡ place_in who end.spot puts
-    spot_by [] end may = refl
-    spot_by (put ∷ puts) end may =
-        spot_by puts (end_after schema size end put.event put.spot) may.1
-        ∙ ap (λ is. place_in who (if is then newer end.spot put.spot else end.spot) puts) (sym (ap (λ r. is_role r who) may.0.exporter ∙ same_role who))
-
-    -- only the last may be a cutover
-    pub cutover_by : (puts : List Put) (end : End) (k : ℕ) → MayFollowInTurn schema who size end puts → k < length puts
-        → has_cutover who (drop k puts) ≡ (ended_by schema size end puts).ended
-    cutover_by [] end k may low = absurd (omega arith)
-    cutover_by (put ∷ []) end zero may low = ap (λ is. (is && ends_part put.event) || false) (ap (λ r. is_role r who) may.0.exporter ∙ same_role who) ∙ or_none (ends_part put.event)
-    cutover_by (put ∷ []) end (suc k) may low = absurd (omega arith)
-    cutover_by (put ∷ next ∷ puts) end zero may low =
-        none (is_role put.event.role who) (ends_part put.event) may.1.0.goes_on
-        ∙ cutover_by (next ∷ puts) (end_after schema size end put.event put.spot) 0 may.1 (omega arith)
-      where
-        none : (a b : Bool) → b ≡ false → ((a && b) || has_cutover who (next ∷ puts)) ≡ has_cutover who (next ∷ puts)
-        none true b no_end = rw no_end refl
-        none false b no_end = refl
-    cutover_by (put ∷ next ∷ puts) end (suc k) may low = cutover_by (next ∷ puts) (end_after schema size end put.event put.spot) k may.1 (omega arith)
+  -- only the last may be a cutover
+  pub cutover_by : (puts : List Put) (end : End) (k : ℕ) → MayFollowInTurn schema who size end puts → k < length puts
+      → has_cutover who (drop k puts) ≡ (end_with schema size end puts).ended
+  cutover_by [] end k may low = absurd (omega arith)
+  cutover_by (put ∷ []) end zero may low = ap (λ is. (is && ends_part put.event) || false) (ap (λ r. is_role r who) may.0.exporter ∙ same_role who) ∙ or_none (ends_part put.event)
+  cutover_by (put ∷ []) end (suc k) may low = absurd (omega arith)
+  cutover_by (put ∷ next ∷ puts) end zero may low =
+      none (is_role put.event.role who) (ends_part put.event) may.1.0.goes_on
+      ∙ cutover_by (next ∷ puts) (end_after schema size end put.event put.spot) 0 may.1 (omega arith)
+    where
+      none : (a b : Bool) → b ≡ false → ((a && b) || has_cutover who (next ∷ puts)) ≡ has_cutover who (next ∷ puts)
+      none true b no_end = rw no_end refl
+      none false b no_end = refl
+  cutover_by (put ∷ next ∷ puts) end (suc k) may low = cutover_by (next ∷ puts) (end_after schema size end put.event put.spot) k may.1 (omega arith)
 
 -- what holds of all holds of those behind some
 pub by_behind : (who : Role) (k : ℕ) (puts : List Put) → AreBy who puts → AreBy who (drop k puts)

@@ -2,7 +2,7 @@ ghost use Rattle.voy_export.specs.Laws.{CommitsAreLawful, ExportsAreNext, StepsK
 
 use voy_feed::kept_go_on;
 use voy_meta::{records_join, records_say};
-use voy_queue::{puts_are_behind, written_reads_back};
+use voy_queue::{puts_are_behind, puts_go_on, written_reads_back};
 
 /// Law: each step of an export that may be done keeps the export disk sound.
 pub fn steps_keep_sound()
@@ -27,6 +27,7 @@ pub fn commits_are_lawful()
 {
     // The laws of the queue and of records; there is nothing to run.
     puts_are_behind();
+    puts_go_on();
     written_reads_back();
     records_join();
     records_say();
