@@ -23,7 +23,7 @@ use Rattle.voy_meta.specs.State.{empty_state, state_of}
 use Rattle.voy_meta.specs.declared.record.MetaRecord.{MetaRecord}
 use Rattle.voy_meta.specs.declared.state.MetaState.{MetaState}
 use Rattle.voy_queue.specs.Laws.{ArePut, FirstPartIsPut, StandsAsItself}
-use Rattle.voy_queue.specs.Commit.{names_of}
+use Rattle.voy_queue.specs.Writer.{names_of}
 use Rattle.voy_queue.specs.Names.{segment_name}
 use Rattle.voy_queue.specs.Putting.{MayFollowInTurn, Put, commit_of, entry_of, pending_with, recorded_end, shelf_with}
 use Rattle.voy_queue.specs.Shelf.{Commits, Shelf, StandsAs, shelf_after, shelf_in}
