@@ -6,6 +6,6 @@ pub mod Steps
 pub mod Sound
 pub mod Calls
 pub mod Errors
-pub mod Turns
 pub mod Laws
 pub mod Put
+pub mod Turns
