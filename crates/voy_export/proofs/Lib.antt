@@ -8,3 +8,4 @@ pub mod SoundLemmas
 pub mod PutLemmas
 pub mod LawfulLemmas
 pub mod NextLemmas
+pub mod TurnLemmas
