@@ -1,2 +1,7 @@
 pub mod EndLemmas
 pub mod GatherLemmas
+mod NameLemmas
+mod TableLemmas
+mod SnapshotImages
+mod SnapshotTexts
+mod SnapshotWrites

@@ -8,6 +8,8 @@ mod laws;
 mod limits;
 mod names;
 mod plan;
+mod rows;
+mod tables;
 
 pub use error::{ExportError, Which, Why};
 pub use exported::Exported;
