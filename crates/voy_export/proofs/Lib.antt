@@ -5,3 +5,5 @@ mod TableLemmas
 mod SnapshotImages
 mod SnapshotTexts
 mod SnapshotWrites
+mod SnapshotTurns
+mod SnapshotLoop

@@ -1,5 +1,5 @@
 -- What a snapshot's calls leave of the exports in each image: what stood, and then a record with its file more.
-use Rattle.std.proofs.Common.{◌≡◌, ◌≢◌, ◌<◌, ◌+◌, ℕ, zero, suc, true, List, [], ◌∷◌, ◌++◌, Option, Some, None, length, take, refl, sym, ap, ◌∙◌, subst, arith}
+use Rattle.std.proofs.Common.{◌≡◌, ◌≢◌, ◌<◌, ℕ, suc, true, List, [], ◌∷◌, ◌++◌, Some, length, take, refl, sym, ap, ◌∙◌, arith}
 use Rattle.std.specs.Prelude.{slice_get}
 use Rattle.std.specs.Option.{option_map}
 use Rattle.std.proofs.Math.Seq.{take-length}
@@ -20,7 +20,7 @@ use Rattle.voy_meta.specs.declared.state.SegmentState.{SegmentState}
 use Rattle.voy_meta.specs.declared.state.SnapshotState.{SnapshotState}
 use Rattle.voy_queue.specs.Names.{segment_name}
 use Rattle.voy_queue.specs.Shelf.{committed, segments_in}
-use Rattle.voy_schema.specs.Lawful.{is_lawful, is_lawful_table}
+use Rattle.voy_schema.specs.Lawful.{is_lawful}
 use Rattle.voy_schema.specs.LawfulLaws.{place_of-at, table_is_lawful}
 use Rattle.voy_schema.specs.Lawful.{place_of}
 use Rattle.voy_schema.specs.declared.table.Table.{Table}

@@ -1,9 +1,9 @@
 -- What the snapshot of one table leaves: its file, and the exports in each image.
-use Rattle.std.proofs.Common.{◌≡◌, ◌≢◌, ◌≤◌, ◌<◌, ◌⊎◌, inl, inr, ℕ, zero, suc, Bool, true, false, List, [], ◌∷◌, ◌++◌, Option, Some, None, Result, Ok, Err, ◌==◌, ◌||◌, length, map, refl, sym, ap, ◌∙◌, subst, arith}
+use Rattle.std.proofs.Common.{◌≡◌, ◌≢◌, ◌≤◌, ◌<◌, ◌⊎◌, inl, inr, ℕ, zero, suc, true, false, List, [], ◌∷◌, ◌++◌, Option, Some, None, Result, Ok, Err, ◌==◌, ◌||◌, length, refl, sym, ap, ◌∙◌, subst, arith}
 use Rattle.std.specs.Prelude.{OnOk, slice_get}
 use Rattle.std.proofs.lemmas.Bool.{and_from, eq-eqb, le-leb, lt-ltb, ne_eqb}
 use Rattle.std.proofs.lemmas.List.{nil_from_length}
-use Rattle.voy_append.specs.Appending.{IsSafeBehind, IsSafeTo}
+use Rattle.voy_append.specs.Appending.{IsSafeBehind}
 use Rattle.voy_disk.specs.Calls.{Change}
 use Rattle.voy_disk.specs.File.{settled}
 use Rattle.voy_disk.specs.FileLaws.{one_image}
@@ -14,10 +14,10 @@ use Rattle.voy_disk.specs.Fronts.{KeepsFront}
 use Rattle.voy_disk.specs.ImageLaws.{image_there}
 use Rattle.voy_disk.specs.Images.{Image, ImagesOf, SameBut, bytes_in}
 use Rattle.voy_disk.specs.ReachLaws.{reaches_nothing, reaches_one}
-use Rattle.voy_disk.specs.StepLaws.{follows_nothing, follows_weaker, some_of_one}
+use Rattle.voy_disk.specs.StepLaws.{follows_weaker, some_of_one}
 use Rattle.voy_disk.specs.Steps.{Does, Every, Follows, Goes, LeavesPrefix, Reaches}
 use Rattle.voy_export.specs.Calls.{snapshot_entry, snapshot_files}
-use Rattle.voy_export.specs.Exports.{Exports, exports_in}
+use Rattle.voy_export.specs.Exports.{exports_in}
 use Rattle.voy_export.specs.Names.{snapshot_file}
 use Rattle.voy_export.specs.Recording.{Recording}
 use Rattle.voy_export.specs.Snapshots.{HasRowsAt, file_at, file_of}

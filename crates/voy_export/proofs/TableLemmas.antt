@@ -1,5 +1,5 @@
 -- What is read of a recorded file, and what it comes to.
-use Rattle.std.proofs.Common.{◌≡◌, ◌≤◌, ◌<◌, ◌+◌, ◌-◌, ℕ, Bool, true, false, List, [], ◌∷◌, Option, Some, None, Result, Ok, Err, IfErr, IfOk, length, nat_lt, refl, sym, ap, ◌∙◌, subst, arith}
+use Rattle.std.proofs.Common.{◌≡◌, ◌≤◌, ◌<◌, ◌+◌, ◌-◌, ℕ, true, false, List, Option, Some, None, Result, Ok, Err, IfErr, IfOk, length, nat_lt, refl, sym, ap, ◌∙◌, subst, arith}
 use Rattle.std.specs.Prelude.{MatchOption, unwrap_or}
 use Rattle.std.specs.Option.{option_map}
 use Rattle.std.proofs.lemmas.Bool.Decides.{nat_tests}
@@ -8,8 +8,7 @@ use Rattle.voy_disk.specs.Files.{bytes_now, length_of}
 use Rattle.voy_disk.specs.Images.{bytes_in}
 use Rattle.voy_export.specs.Ends.{SnapshotEnd, behind_rows, ends_with, past, refused, with_file, with_rows}
 use Rattle.voy_export.specs.Names.{csv_file}
-use Rattle.voy_export.specs.Recording.{rows_in}
-use Rattle.voy_export.specs.Snapshots.{Counts, ReadsRows, ReadsTable, Stops, StopsAtFile, StopsAtRows, StopsCounting, counted}
+use Rattle.voy_export.specs.Snapshots.{Counts, ReadsRows, ReadsTable, Stops, StopsAtFile, StopsAtRows, StopsCounting}
 use Rattle.voy_export.specs.declared.error.ExportError.{ExportError}
 use Rattle.voy_export.specs.declared.error.ExportError.TheVariants as error
 use Rattle.voy_export.specs.declared.error.Why.TheVariants.{Missing}

@@ -42,4 +42,4 @@ CommitsAreLawful =
     → allowed_after (state_of sound.entries) (map (entry_of role) (pending_with recording.schema size (recorded_end (state_of sound.entries) role) [] puts)) ≡ true
     → AreNext recording (last_vsn (state_of sound.entries)) puts
     → Lawful export_step (MayExport recording) (exports_in recording.schema image)
-    (map AddsEvents (map (commit_of role) (take count (pending_with recording.schema size (recorded_end (state_of sound.entries) role) [] puts))))
+        (map AddsEvents (map (commit_of role) (take count (pending_with recording.schema size (recorded_end (state_of sound.entries) role) [] puts))))

@@ -1,5 +1,5 @@
 -- What the turns of an export of snapshots come to.
-use Rattle.std.specs.Prelude.{◌≡◌, ℕ, ◌+◌, ◌-◌, List, [], ◌∷◌, Option, Some, None, Result, Ok, Err, IfErr, OnOk, drop, if◌then◌else◌, length, nat_lt, slice_get}
+use Rattle.std.specs.Prelude.{◌≡◌, ℕ, ◌+◌, ◌-◌, List, [], Option, Some, None, Result, Ok, Err, IfErr, OnOk, drop, if◌then◌else◌, length, nat_lt, slice_get}
 use Rattle.voy_disk.specs.Files.{Files}
 use Rattle.voy_disk.specs.Images.{Image, ImagesOf, bytes_in}
 use Rattle.voy_disk.specs.Steps.{Does, Follows, Goes, LeavesPrefix}

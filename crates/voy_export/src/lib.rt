@@ -9,6 +9,7 @@ mod limits;
 mod names;
 mod plan;
 mod rows;
+mod snapshot;
 mod tables;
 
 pub use error::{ExportError, Which, Why};
@@ -16,3 +17,4 @@ pub use exported::Exported;
 pub use laws::{commits_are_lawful, exports_are_next, steps_keep_sound};
 pub use limits::MAX_CSV_BYTES;
 pub use names::{csv_file, snapshot_file};
+pub use snapshot::export_snapshot;

@@ -1,17 +1,17 @@
-ghost use Rattle.std.specs.Prelude.{◌≡◌, ◌≢◌, ◌≤◌, ◌<◌, [], ◌∷◌, true, Some, IfErr, IfOk, IsTrue, OnOk, length, slice_get};
+ghost use Rattle.std.specs.Prelude.{◌≡◌, ◌≢◌, ◌≤◌, ◌<◌, ◌+◌, [], ◌∷◌, true, Some, IfErr, IfOk, IsTrue, OnOk, length, slice_get};
 ghost use Rattle.voy_append.specs.Appending.{IsSafeBehind};
 ghost use Rattle.voy_disk.specs.Calls.{Change};
 ghost use Rattle.voy_disk.specs.Faults.{HasCause};
 ghost use Rattle.voy_disk.specs.Files.{IfTold};
 ghost use Rattle.voy_disk.specs.Frames.{KeepsBeside, KeepsOtherFiles, OneOf};
 ghost use Rattle.voy_disk.specs.Fronts.{KeepsFront};
-ghost use Rattle.voy_disk.specs.Images.{ImagesOf};
+ghost use Rattle.voy_disk.specs.Images.{ImagesOf, now_image};
 ghost use Rattle.voy_disk.specs.Steps.{Does, DoesAll, Follows, Goes, LeavesPrefix, StaysTold};
-ghost use Rattle.voy_export.specs.Calls.{IsUnnamed, snapshot_entry, snapshot_files};
+ghost use Rattle.voy_export.specs.Calls.{AtEnd, IsUnnamed, snapshot_entry, snapshot_files};
 ghost use Rattle.voy_export.specs.Exports.{exports_in};
 ghost use Rattle.voy_export.specs.Names.{snapshot_file};
 ghost use Rattle.voy_export.specs.Recording.{Recording};
-ghost use Rattle.voy_export.specs.Snapshots.{HasRowsAt, file_at};
+ghost use Rattle.voy_export.specs.Snapshots.{HasRowsAt, Turns, file_at};
 ghost use Rattle.voy_export.specs.Steps.{AddsSnapshot, MayExport, export_step};
 ghost use Rattle.voy_meta.specs.Allowed.{is_allowed};
 ghost use Rattle.voy_meta.specs.Meta.{AddsRecords, MetaStands, meta_name, meta_state};
@@ -22,7 +22,9 @@ ghost use Rattle.voy_schema.specs.Lawful.{is_lawful_table};
 ghost use Rattle.voy_tables.specs.RowText.{row_lines};
 
 use crate::error::{ExportError, Which};
+use crate::limits::MAX_CSV_BYTES;
 use crate::names::snapshot_file;
+use crate::rows::{Recorded, count_table, read_table};
 use std::alloc::{AllocError, Global};
 use voy_append::append_bytes;
 use voy_disk::{Disk, DiskError, Name};
@@ -189,5 +191,85 @@ fn put_entry<D: Disk>(export: &mut D, meta: &mut Meta, entry: MetaRecord) -> Res
         Err(MetaError::Fault) => Err(ExportError::Fault(Which::Export)),
         Err(MetaError::NoMemory) => Err(ExportError::NoMemory),
         Err(MetaError::Damaged { .. }) => unreachable!(),
+    }
+}
+
+/// Exports the table of this number, which is the next one, and answers the bytes of its recorded file and of those in front of it.
+fn export_table<D: Disk>(
+    alloc: Global,
+    schema: &Schema,
+    recording: &mut D,
+    export: &mut D,
+    meta: &mut Meta,
+    number: usize,
+    sum: u64,
+) -> Result<u64, ExportError>
+    requires within { number < length schema.now.tables }
+    requires few { sum ≤ MAX_CSV_BYTES }
+    requires live { IsTrue (meta_live meta.old) }
+    requires stands { MetaStands meta.old (D.files export.old) }
+    requires next { length (meta_state meta.old).snapshots ≡ number }
+    requires tables { (meta_state meta.old).snapshots ≢ [] → (meta_state meta.old).tables ≡ length schema.now.tables }
+    ensures turns { IfTold (D.files recording.old) (λ fs.
+        Turns schema.now.tables (now_image fs) number sum result (meta_state meta.old) (meta_state meta.new) (D.files export.old) (D.files export.new)) }
+    ensures few { IfOk result (λ next. next ≤ MAX_CSV_BYTES) }
+    ensures counts { OnOk result (length (meta_state meta.new).snapshots ≡ number + 1) }
+    ensures tables { AtEnd result ((meta_state meta.new).snapshots ≢ [] → (meta_state meta.new).tables ≡ length schema.now.tables) }
+    ensures live { AtEnd result (IsTrue (meta_live meta.new)) }
+    ensures stands { AtEnd result (MetaStands meta.new (D.files export.new)) }
+    ensures others { Change (KeepsBeside (OneOf (meta_name ∷ snapshot_files schema.now.tables))) (D.files export.old) (D.files export.new) }
+    ensures told { StaysTold (ImagesOf (D.files export.old)) (ImagesOf (D.files export.new)) }
+    ensures same { D.files recording.new ≡ D.files recording.old }
+    ensures lender_recording { D.lender recording.new ≡ D.lender recording.old }
+    ensures lender_export { D.lender export.new ≡ D.lender export.old }
+    ensures cause_recording { HasCause (ExportError.Fault Which.Recording) (D.faults recording.old) (D.faults recording.new) result }
+    ensures cause_export { HasCause (ExportError.Fault Which.Export) (D.faults export.old) (D.faults export.new) result }
+{
+    let Recorded { rows, sum } = read_table(
+        alloc,
+        recording,
+        &schema.tables.as_slice()[number],
+        sum,
+    )?;
+    write_snapshot(alloc, schema, export, meta, number, rows.as_slice())?;
+    Ok(sum)
+}
+
+/// The turn of the table of this number: one that is recorded is counted, and another is the next one and is exported.
+pub(crate) fn take_table<D: Disk>(
+    alloc: Global,
+    schema: &Schema,
+    recording: &mut D,
+    export: &mut D,
+    meta: &mut Meta,
+    number: usize,
+    sum: u64,
+) -> Result<u64, ExportError>
+    requires within { number < length schema.now.tables }
+    requires few { sum ≤ MAX_CSV_BYTES }
+    requires live { IsTrue (meta_live meta.old) }
+    requires stands { MetaStands meta.old (D.files export.old) }
+    requires recorded { number ≤ length (meta_state meta.old).snapshots }
+    requires tables { (meta_state meta.old).snapshots ≢ [] → (meta_state meta.old).tables ≡ length schema.now.tables }
+    ensures turns { IfTold (D.files recording.old) (λ fs.
+        Turns schema.now.tables (now_image fs) number sum result (meta_state meta.old) (meta_state meta.new) (D.files export.old) (D.files export.new)) }
+    ensures few { IfOk result (λ next. next ≤ MAX_CSV_BYTES) }
+    ensures recorded { OnOk result (number + 1 ≤ length (meta_state meta.new).snapshots) }
+    ensures whole { OnOk result (length (meta_state meta.old).snapshots ≤ length schema.now.tables → length (meta_state meta.new).snapshots ≤ length schema.now.tables) }
+    ensures tables { AtEnd result ((meta_state meta.new).snapshots ≢ [] → (meta_state meta.new).tables ≡ length schema.now.tables) }
+    ensures live { AtEnd result (IsTrue (meta_live meta.new)) }
+    ensures stands { AtEnd result (MetaStands meta.new (D.files export.new)) }
+    ensures others { Change (KeepsBeside (OneOf (meta_name ∷ snapshot_files schema.now.tables))) (D.files export.old) (D.files export.new) }
+    ensures told { StaysTold (ImagesOf (D.files export.old)) (ImagesOf (D.files export.new)) }
+    ensures same { D.files recording.new ≡ D.files recording.old }
+    ensures lender_recording { D.lender recording.new ≡ D.lender recording.old }
+    ensures lender_export { D.lender export.new ≡ D.lender export.old }
+    ensures cause_recording { HasCause (ExportError.Fault Which.Recording) (D.faults recording.old) (D.faults recording.new) result }
+    ensures cause_export { HasCause (ExportError.Fault Which.Export) (D.faults export.old) (D.faults export.new) result }
+{
+    if number < meta.state().snapshots.len() {
+        count_table(alloc, recording, &schema.tables.as_slice()[number], sum)
+    } else {
+        export_table(alloc, schema, recording, export, meta, number, sum)
     }
 }

@@ -1,5 +1,4 @@
-use Rattle.std.proofs.Common.{◌≡◌, Ok, sym, ◌∙◌, subst}
-use Rattle.voy_disk.specs.Files.{Files}
+use Rattle.std.proofs.Common.{◌≡◌, Ok, ◌∙◌, subst}
 use Rattle.voy_export.specs.Ends.{with_rows}
 use Rattle.voy_export.specs.Snapshots.{Stops}
 use Rattle.voy_tables.specs.Readings.{recorded_rows}

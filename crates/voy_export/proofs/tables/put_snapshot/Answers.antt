@@ -1,4 +1,4 @@
-use Rattle.std.proofs.Common.{◌≡◌, ◌≤◌, true, length, sym, subst, ◌∙◌}
+use Rattle.std.proofs.Common.{◌≡◌, ◌≤◌, true, length, sym, subst}
 use Rattle.voy_disk.specs.StepLaws.{stays_told_on}
 use Rattle.voy_export.proofs.SnapshotWrites.{both_beside, file_beside, may_record, meta_stays, recorded_all, recorded_leaves, recorded_moves, written_leaves, written_moves}
 use Rattle.voy_meta.specs.Allowed.{is_allowed}
