@@ -1,4 +1,4 @@
-ghost use Rattle.std.specs.Prelude.{◌≡◌, ◌≢◌, ◌≤◌, ◌<◌, ◌+◌, [], ◌∷◌, true, Some, IfErr, IfOk, IsTrue, OnOk, length, slice_get};
+ghost use Rattle.std.specs.Prelude.{◌≡◌, ◌≢◌, ◌≤◌, ◌<◌, ◌+◌, [], ◌∷◌, true, Some, IfErr, IfOk, IsTrue, OnOk, length, nat_lt, slice_get};
 ghost use Rattle.voy_append.specs.Appending.{IsSafeBehind};
 ghost use Rattle.voy_disk.specs.Calls.{Change};
 ghost use Rattle.voy_disk.specs.Faults.{HasCause};
@@ -267,9 +267,16 @@ pub(crate) fn take_table<D: Disk>(
     ensures cause_recording { HasCause (ExportError.Fault Which.Recording) (D.faults recording.old) (D.faults recording.new) result }
     ensures cause_export { HasCause (ExportError.Fault Which.Export) (D.faults export.old) (D.faults export.new) result }
 {
-    if number < meta.state().snapshots.len() {
+    if is_recorded(meta, number) {
         count_table(alloc, recording, &schema.tables.as_slice()[number], sum)
     } else {
         export_table(alloc, schema, recording, export, meta, number, sum)
     }
+}
+
+/// Whether the snapshot of the table of this number is recorded.
+fn is_recorded(meta: &Meta, number: usize) -> bool
+    ensures { result ≡ nat_lt number (length (meta_state meta.now).snapshots) }
+{
+    number < meta.state().snapshots.len()
 }
