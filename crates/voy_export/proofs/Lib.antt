@@ -1,5 +1,13 @@
 pub mod EndLemmas
 pub mod GatherLemmas
+pub mod ShelfLemmas
+pub mod CommitLemmas
+pub mod PlaceLemmas
+pub mod StateLemmas
+pub mod SoundLemmas
+pub mod PutLemmas
+pub mod LawfulLemmas
+pub mod NextLemmas
 mod NameLemmas
 mod TableLemmas
 mod SnapshotImages

@@ -7,5 +7,6 @@ pub mod Sound
 pub mod Calls
 pub mod Snapshots
 pub mod Errors
-pub mod Turns
 pub mod Laws
+pub mod Put
+pub mod Turns

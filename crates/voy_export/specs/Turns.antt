@@ -1,10 +1,11 @@
 -- What the turns of an export of changes come to.
-use Rattle.std.specs.Prelude.{◌≡◌, ℕ, suc, ◌-◌, Bool, true, false, List, [], ◌∷◌, ◌++◌, Option, Some, None, map, take}
+use Rattle.std.specs.Prelude.{◌≡◌, ℕ, suc, ◌-◌, Bool, true, false, List, [], ◌∷◌, ◌++◌, Option, Some, None}
 use Rattle.voy_disk.specs.Files.{Files}
 use Rattle.voy_disk.specs.Images.{Image}
+use Rattle.voy_disk.specs.Steps.{Follows}
+use Rattle.voy_export.specs.Put.{HasPut}
 use Rattle.voy_export.specs.Ends.{ChangesEnd, Stop, changes_end, finished, has_number, stop_at}
 use Rattle.voy_export.specs.Errors.{stop_told}
-use Rattle.voy_export.specs.Exports.{Exports, exports_in}
 use Rattle.voy_export.specs.declared.plan.Plan.{Plan}
 use Rattle.voy_event.specs.declared.event.What.{What}
 use Rattle.voy_export.specs.declared.plan.Refusal.{Refusal}
@@ -19,12 +20,10 @@ use Rattle.voy_feed.specs.Kept.{ChangeReading, change_file, kept_reading}
 use Rattle.voy_feed.specs.declared.feed.Feed.{Feed}
 use Rattle.voy_feed.specs.declared.keep.Keep.{Keep}
 use Rattle.voy_queue.specs.Putting as putting
-use Rattle.voy_queue.specs.Putting.{MayFollow, MayFollowInTurn, commit_of, end_after, end_of, pending_after, pending_with}
-use Rattle.voy_queue.specs.Shelf.{Shelf, shelf_after}
+use Rattle.voy_queue.specs.Putting.{MayFollow, MayFollowInTurn, end_after, end_behind, pending_after, pending_with}
 use Rattle.voy_queue.specs.Writer.{closing_size, committed_end, pending, writer_end, writer_role}
 use Rattle.voy_queue.specs.declared.end.End.{End}
 use Rattle.voy_queue.specs.declared.writer.Writer.{Writer}
-use Rattle.voy_disk.specs.Steps.{after_all}
 use Rattle.voy_schema.specs.declared.table.Table.{Table}
 use Rattle.voy_tables.specs.declared.change.Role.{Role}
 
@@ -88,27 +87,10 @@ abbrev pub StopsAt : Role → FeedError → Step → Type 0
 StopsAt role (feed.Line line why) (Stopped refusal) = stop_told refusal ≡ stop_at (change_file role) line why
 StopsAt role error step = ⊥
 
--- the end behind puts that were committed
-abbrev pub end_behind : List Table → (size : ℕ) → End → List putting.Put → End
-end_behind schema size end puts = end_of end (pending_with schema size end [] puts)
-
--- the shelf with puts committed at once
-abbrev pub shelf_with : List Table → Role → (size : ℕ) → Shelf → End → List putting.Put → Shelf
-shelf_with schema role size shelf end puts = after_all shelf_after shelf (map (commit_of role) (pending_with schema size end [] puts))
-
--- the shelf with puts committed in these parts, one after the other
-abbrev pub in_parts : List Table → Role → (size : ℕ) → Shelf → End → List (List putting.Put) → Shelf
-in_parts schema role size shelf end [] = shelf
-in_parts schema role size shelf end (part ∷ parts) =
-    in_parts schema role size (shelf_with schema role size shelf end part) (end_behind schema size end part) parts
-
-abbrev pub join : List (List putting.Put) → List putting.Put
-join [] = []
-join (part ∷ parts) = part ++ join parts
-
--- an image has these puts more, committed in some parts, and the same snapshots
-pub record HasParts (schema : List Table) (role : Role) (size : ℕ) (end : End) (puts : List putting.Put) (i j : Image) : Type 0 where
-  pub parts : List (List putting.Put)
-  pub joins : join parts ≡ puts
-  pub shelf : (exports_in schema j).shelf ≡ in_parts schema role size (exports_in schema i).shelf end parts
-  pub snapshots : (exports_in schema j).snapshots ≡ (exports_in schema i).snapshots
+-- events were put and committed, this is left of the end, and here the queue ends
+pub record Turned (schema : List Table) (role : Role) (size : ℕ) (end : End) (before after : ChangesEnd) (here : End) (old new : Image → Type 0) : Type 0 where
+  pub puts : List putting.Put
+  pub ends : before ≡ behind_puts puts after
+  pub ends_here : here ≡ end_behind schema size end puts
+  pub may : MayFollowInTurn schema role size end puts
+  pub images : Follows (HasPut schema role size end puts) old new

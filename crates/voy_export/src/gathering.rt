@@ -20,7 +20,7 @@ use std::alloc::{AllocError, Global};
 use voy_disk::Disk;
 use voy_event::{Event, LineWhy, Recorded, What};
 use voy_feed::{Feed, FeedError, Keep, change_file};
-use voy_queue::{End, Writer};
+use voy_queue::{End, Writer, puts_go_on};
 use voy_schema::Schema;
 use voy_tables::{Role, Spot};
 
@@ -61,6 +61,8 @@ pub(crate) fn gather<D: Disk>(
     ensures no_export { IfErr result (λ error. error ≢ ExportError.Fault Which.Export) }
     ensures unnamed { IfErr result IsUnnamed }
 {
+    // The law that puts are pending in turn; there is nothing to run.
+    puts_go_on();
     'events: loop {
         let step = put_next(alloc, schema, feed, keep, recording, writer, plan)?;
         match step {
@@ -115,7 +117,7 @@ fn put_next<D: Disk>(
     ensures no_export { IfErr result (λ error. error ≢ ExportError.Fault Which.Export) }
     ensures unnamed { IfErr result IsUnnamed }
 {
-    if plan.left == Some(0) && !plan.end {
+    if plan.is_over() {
         return Ok(Step::Finished);
     }
     match feed.next_kept(keep, recording, schema) {

@@ -1,6 +1,8 @@
 //! Exports: the recorded rows into snapshot files, and the recorded changes into the queue.
 #![tactic(auto)]
 
+mod changes;
+mod committing;
 mod error;
 mod exported;
 mod gathering;
@@ -11,7 +13,9 @@ mod plan;
 mod rows;
 mod snapshot;
 mod tables;
+mod turns;
 
+pub use changes::export_changes;
 pub use error::{ExportError, Which, Why};
 pub use exported::Exported;
 pub use laws::{commits_are_lawful, exports_are_next, steps_keep_sound};

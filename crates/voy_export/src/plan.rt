@@ -12,8 +12,19 @@ pub(crate) struct Plan {
 }
 
 impl Plan {
-    ghost use Rattle.std.specs.Prelude.{◌≡◌};
+    ghost use Rattle.std.specs.Prelude.{◌≡◌, not};
+    ghost use Rattle.voy_export.specs.Ends.{reads_on};
     ghost use Rattle.voy_export.specs.Turns.{one_less};
+
+    /// Whether nothing is left to do, so that no further line is to be read.
+    pub fn is_over(self) -> bool
+        ensures { result ≡ not (reads_on self.left self.end 0) }
+    {
+        match self.left {
+            None => false,
+            Some(left) => left == 0 && !self.end,
+        }
+    }
 
     /// What is left to do behind one change more.
     pub fn after_change(self) -> Plan

@@ -1,5 +1,5 @@
 -- What contracts see of a feed, and what it asks of the disk that it is lent.
-use Rattle.std.specs.Prelude.{◌≡◌, ◌≤◌, ◌<◌, ◌+◌, ◌-◌, ℕ, suc, Bool, List, [], Option, Some, None, length, nat_lt}
+use Rattle.std.specs.Prelude.{◌≡◌, ◌≤◌, ◌+◌, ◌-◌, ℕ, suc, Bool, List, Option, Some, None, length, nat_lt}
 use Rattle.voy_disk.specs.Files.{Files, IfTold, bytes_now}
 use Rattle.voy_feed.specs.Kept.{ChangeReading, lines_reading}
 use Rattle.voy_feed.specs.declared.feed.Feed.{Feed}

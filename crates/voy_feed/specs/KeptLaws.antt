@@ -1,5 +1,5 @@
 -- Laws of kept changes.
-use Rattle.std.specs.Prelude.{◌≡◌, ℕ, Bool, true, ◌&&◌, List, [], ◌∷◌, ◌++◌, Option, Some, None, drop, take, if◌then◌else◌}
+use Rattle.std.specs.Prelude.{◌≡◌, ℕ, Bool, ◌&&◌, List, [], ◌∷◌, ◌++◌, Option, Some, drop, take, if◌then◌else◌}
 use Rattle.std.specs.List.{list_all}
 use Rattle.voy_feed.specs.Kept.{Numbered, is_above, is_before, kept_from}
 use Rattle.voy_tables.specs.declared.change.Spot.{Spot}

@@ -1,9 +1,10 @@
-ghost use Rattle.std.specs.Prelude.{◌≡◌, ◌≢◌, List, None, IfErr, IfOk, IsTrue, false, is_some, true};
+ghost use Rattle.std.specs.Prelude.{◌≡◌, ◌≢◌, ◌≤◌, ◌<◌, List, None, Some, IfErr, IfOk, IfSome, IsTrue, false, is_some, true};
 ghost use Rattle.voy_disk.specs.Faults.{HasCause};
 ghost use Rattle.voy_disk.specs.Files.{IfTold, bytes_now};
 ghost use Rattle.voy_disk.specs.Images.{now_image};
 ghost use Rattle.voy_feed.specs.Feed.{FeedStands, changes_left, is_too_large, lines_given};
 ghost use Rattle.voy_feed.specs.Kept.{changes_of};
+ghost use Rattle.voy_feed.specs.declared.limits.TheConstants.{MAX_CHANGE_FILE_BYTES};
 ghost use Rattle.voy_schema.specs.declared.table.Table.{Table};
 
 use crate::error::FeedError;
@@ -31,20 +32,17 @@ impl Feed {
         ensures no_line { IfErr result (λ error. (line : _) (why : _) → error ≢ FeedError.Line line why) }
         ensures cause { HasCause FeedError.Fault (D.faults disk.old) (D.faults disk.new) result }
     {
-        let Some(end) = disk.len(&name)? else {
-            return Err(FeedError::Missing);
-        };
-        if end > MAX_CHANGE_FILE_BYTES {
-            return Err(FeedError::TooLarge);
+        match end_of(disk.len(&name)?) {
+            Ok(end) => Ok(Feed {
+                alloc,
+                name,
+                at: 0,
+                end,
+                given: 0,
+                lines: None,
+            }),
+            Err(error) => Err(error),
         }
-        Ok(Feed {
-            alloc,
-            name,
-            at: 0,
-            end,
-            given: 0,
-            lines: None,
-        })
     }
 
     /// The number of the line that was given last, from 1; 0 where none was.
@@ -52,5 +50,27 @@ impl Feed {
         ensures { result ≡ lines_given self.now }
     {
         self.given
+    }
+}
+
+/// Where a file of this length ends, if it is there and not too large.
+fn end_of(length: Option<u64>) -> Result<u64, FeedError>
+    ensures some { IfOk result (λ end. length ≡ Some end) }
+    ensures within { IfOk result (λ end. end ≤ MAX_CHANGE_FILE_BYTES) }
+    ensures missing { IfErr result (λ error. error ≡ FeedError.Missing → length ≡ None) }
+    ensures there { IfErr result (λ error. error ≡ FeedError.TooLarge → IsTrue (is_some length)) }
+    ensures large { IfErr result (λ error. error ≡ FeedError.TooLarge → IfSome length (λ end. MAX_CHANGE_FILE_BYTES < end)) }
+    ensures no_line { IfErr result (λ error. (line : _) (why : _) → error ≢ FeedError.Line line why) }
+    ensures no_fault { IfErr result (λ error. error ≢ FeedError.Fault) }
+{
+    match length {
+        None => Err(FeedError::Missing),
+        Some(end) => {
+            if end > MAX_CHANGE_FILE_BYTES {
+                Err(FeedError::TooLarge)
+            } else {
+                Ok(end)
+            }
+        }
     }
 }

@@ -1,0 +1,4 @@
+mod SpotLemmas
+mod KeptLemmas
+mod OpenLemmas
+mod FeedLemmas
