@@ -9,3 +9,10 @@ pub mod PutLemmas
 pub mod LawfulLemmas
 pub mod NextLemmas
 pub mod TurnLemmas
+mod NameLemmas
+mod TableLemmas
+mod SnapshotImages
+mod SnapshotTexts
+mod SnapshotWrites
+mod SnapshotTurns
+mod SnapshotLoop

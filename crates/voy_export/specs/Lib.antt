@@ -5,6 +5,7 @@ pub mod Exports
 pub mod Steps
 pub mod Sound
 pub mod Calls
+pub mod Snapshots
 pub mod Errors
 pub mod Laws
 pub mod Put
