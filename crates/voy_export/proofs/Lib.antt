@@ -16,3 +16,4 @@ mod SnapshotTexts
 mod SnapshotWrites
 mod SnapshotTurns
 mod SnapshotLoop
+pub mod ChangeLemmas

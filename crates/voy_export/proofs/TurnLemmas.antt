@@ -9,7 +9,13 @@ use Rattle.voy_disk.specs.Images.{Image}
 use Rattle.voy_disk.specs.Steps.{Every, Follows, From, Goes, SomeFirst}
 use Rattle.voy_disk.specs.ReachLaws.{goes_keeps, goes_on}
 use Rattle.voy_export.proofs.CommitLemmas.{recorded_vsn}
+use Rattle.std.specs.Prelude.{Err}
+use Rattle.voy_export.specs.Calls.{AtEnd, Tells}
 use Rattle.voy_export.specs.Ends.{ChangesEnd, Stop}
+use Rattle.voy_export.specs.Errors.{error_of, stop_told}
+use Rattle.voy_export.specs.declared.error.ExportError.{ExportError}
+use Rattle.voy_export.specs.declared.plan.Refusal.{Refusal}
+use Rattle.voy_export.specs.declared.plan.Refusal.TheVariants.{Limit, Line}
 use Rattle.voy_export.specs.Exports.{Exports, exports_in}
 use Rattle.voy_export.specs.Laws.{AreNext, StepsKeepSound}
 use Rattle.voy_export.specs.Put.{AddsQueueRecords, AreQueueRecords, HasPut}
@@ -23,7 +29,7 @@ use Rattle.voy_meta.specs.Meta.{ReadsAs, records_in}
 use Rattle.voy_meta.specs.State.{state_after, state_of}
 use Rattle.voy_meta.specs.declared.record.MetaRecord.{MetaRecord}
 use Rattle.voy_meta.specs.declared.state.MetaState.{MetaState}
-use Rattle.voy_queue.specs.Laws.{EndsWithPuts, FollowsJoin, PendingJoins, PutsJoin, RoomIsThere, StandsAlikeWith, StandsAsInTurn}
+use Rattle.voy_queue.specs.Laws.{EndsWithPuts, FollowsJoin, PendingJoins, PutsJoin, RoomIsThere, StandsAlikeWith, StandsAsInTurn, StandsAsItself}
 use Rattle.voy_queue.specs.Putting.{HasRoom, MayFollowInTurn, Put, end_after, end_behind, end_of, end_with, pending_with, recorded_end, shelf_with}
 use Rattle.voy_queue.specs.Shelf.{Shelf, StandsAs, shelf_in}
 use Rattle.voy_queue.specs.Writer.{closing_size, committed_end, pending, writer_end, writer_role}
@@ -50,7 +56,7 @@ vsn_with schema role size end (put ∷ puts) may =
     vsn_with schema role size (end_after schema size end put.event put.spot) puts may.1
     ∙ (let next = may.0.next in omega (arith, next))
 
-vsn_behind : EndsWithPuts → (schema : List Table) (role : Role) (size : ℕ) (end : End) (puts : List Put) → MayFollowInTurn schema role size end puts
+pub vsn_behind : EndsWithPuts → (schema : List Table) (role : Role) (size : ℕ) (end : End) (puts : List Put) → MayFollowInTurn schema role size end puts
     → (end_behind schema size end puts).last_vsn ≡ end.last_vsn + length puts
 vsn_behind ends schema role size end puts may = ap (λ (e : End). e.last_vsn) (ends schema size end [] puts) ∙ vsn_with schema role size end puts may
 
@@ -268,3 +274,58 @@ pub moves_on : StepsKeepSound → (stated : Recording) {a b c : Image → Type 0
 moves_on keeps stated {a} {b} {c} sound first then =
     goes_on export_step (MayExport stated) (exports_in stated.schema) a b c first
     (then (goes_keeps export_step (MayExport stated) (SoundExports stated) (keeps stated) (exports_in stated.schema) a b sound first))
+
+-- ---- the end of all turns
+
+stop_puts : (x : ChangesEnd) (xs : List Put) (stop : Stop) → x ≡ behind_puts xs (at_stop stop) → xs ≡ x.puts
+stop_puts x xs stop ends = sym (append-nil xs) ∙ sym (ap (λ (e : ChangesEnd). e.puts) ends)
+
+module _ (schema : List Table) (role : Role) (size : ℕ) (end here : End) (x : ChangesEnd) (stop : Stop) {a b : Image → Type 0}
+    (turned : Turned schema role size end x (at_stop stop) here a b) where
+  pub stop_all : Follows (HasPut schema role size end x.puts) a b
+  stop_all = subst (λ (puts : List Put). Follows (HasPut schema role size end puts) a b) (stop_puts x turned.puts stop turned.ends) turned.images
+
+  pub stop_end : here ≡ end_behind schema size end x.puts
+  stop_end = turned.ends_here ∙ ap (end_behind schema size end) (stop_puts x turned.puts stop turned.ends)
+
+  pub stop_may : MayFollowInTurn schema role size end x.puts
+  stop_may = subst (MayFollowInTurn schema role size end) (stop_puts x turned.puts stop turned.ends) turned.may
+
+  pub stop_some : Follows (SomeFirst (HasPut schema role size end) x.puts) a b
+  stop_some = all_are_some schema role size end turned.puts [] x.puts {a = a} {b = b} (ap (λ (e : ChangesEnd). e.puts) turned.ends) turned.images
+
+  pub stop_is : x.stop ≡ stop
+  stop_is = ap (λ (e : ChangesEnd). e.stop) turned.ends
+
+-- what is refused is told
+pub tells : (x : ChangesEnd) (refusal : Refusal) (error : ExportError) → x.stop ≡ stop_told refusal → error ≡ error_of refusal → Tells x.stop error
+tells x refusal error is same = subst (Tells x.stop) (sym same) (by refusal is) where
+  by : (refusal : Refusal) → x.stop ≡ stop_told refusal → Tells x.stop (error_of refusal)
+  by (Line file line why) is = is
+  by (Limit file line) is = is
+
+pub at_end : (P : Type 0) (refusal : Refusal) (error : ExportError) → error ≡ error_of refusal → P → AtEnd {T = Unit {0}} (Err error) P
+at_end P refusal error same holds = subst (λ (e : ExportError). AtEnd {T = Unit {0}} (Err e) P) (sym same) (by refusal) where
+  by : (refusal : Refusal) → AtEnd {T = Unit {0}} (Err (error_of refusal)) P
+  by (Line file line why) = holds
+  by (Limit file line) = holds
+
+more_nothing : (records : Option (List MetaRecord)) → records ≡ option_map (λ entries. entries ++ []) records
+more_nothing None = refl
+more_nothing (Some entries) = ap Some (sym (append-nil entries))
+
+pub put_nothing : StandsAsItself → (schema : List Table) (role : Role) (size : ℕ) (end : End) (i : Image) → HasPut schema role size end [] i i
+put_nothing itself schema role size end i = record {
+  shelf = itself (shelf_in i);
+  more = [];
+  queue = tt;
+  records = more_nothing (shelf_in i).records;
+  snapshots = refl;
+}
+
+-- the shelf of each image has room behind the recorded end
+pub room_at : RoomIsThere → (state : MetaState) (role : Role) (end : End) (images : Image → Type 0) → Every images (ReadsAs state) → end ≡ recorded_end state role
+    → (i : Image) → images i → HasRoom end (shelf_in i)
+room_at room state role end images reads is i here =
+    let at = reads.each i here in
+    subst (λ (e : End). HasRoom e (shelf_in i)) (sym (is ∙ ap (λ (s : MetaState). recorded_end s role) at.state_is)) (room i at.entries role at.read)

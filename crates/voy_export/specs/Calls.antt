@@ -1,5 +1,5 @@
 -- What contracts say of the calls of an export.
-use Rattle.std.specs.Prelude.{◌≡◌, ◌⊎◌, ℕ, List, [], ◌∷◌, ◌++◌, ◌+◌, Option, Some, None, Result, Ok, Err, count_by, length, map, suc}
+use Rattle.std.specs.Prelude.{◌≡◌, ◌⊎◌, ℕ, List, [], ◌∷◌, ◌++◌, ◌+◌, Option, Some, None, Result, Ok, Err, length, map, suc, if◌then◌else◌}
 use Rattle.voy_disk.specs.Images.{Image}
 use Rattle.voy_disk.specs.Steps.{after_all}
 use Rattle.voy_event.specs.Events.{is_change}
@@ -46,7 +46,8 @@ IsUnnamed NoMemory = Unit {0}
 
 -- how many of these are changes
 abbrev pub count_changes : List Put → ℕ
-count_changes puts = count_by (λ (put : Put). is_change put.event.what) puts
+count_changes [] = 0
+count_changes (put ∷ puts) = (if is_change put.event.what then 1 else 0) + count_changes puts
 
 -- the record of a table's snapshot with these rows, of so many tables
 abbrev pub snapshot_entry : (tables number : ℕ) → List (List Value) → MetaRecord

@@ -22,14 +22,15 @@ ghost use Rattle.voy_queue.specs.Putting.{end_behind, recorded_end};
 ghost use Rattle.voy_queue.specs.Writer.{WriterStands, closing_size, committed_end, is_live, pending, writer_role};
 
 use crate::error::{ExportError, Which};
+use crate::laws::exports_are_next;
 use crate::exported::{Exported, exported_between};
 use crate::plan::Plan;
 use crate::turns::export_turns;
 use std::alloc::Global;
 use voy_disk::Disk;
 use voy_feed::{Feed, Keep};
-use voy_meta::Meta;
-use voy_queue::Writer;
+use voy_meta::{Meta, metadata_stand};
+use voy_queue::{Writer, puts_go_on};
 use voy_schema::Schema;
 
 /// Exports the next kept changes into the queue: all, or the first `max` of them where there are more. Where `end` is true and no kept
@@ -108,6 +109,10 @@ pub fn export_changes<D: Disk>(
     ensures cause_recording { HasCause (ExportError.Fault Which.Recording) (D.faults recording.old) (D.faults recording.new) result }
     ensures cause_export { HasCause (ExportError.Fault Which.Export) (D.faults export.old) (D.faults export.new) result }
 {
+    // Laws of exports, of the metadata and of the queue; there is nothing to run.
+    exports_are_next();
+    metadata_stand();
+    puts_go_on();
     let from = writer.end();
     let plan = Plan { left: max, end };
     export_turns(

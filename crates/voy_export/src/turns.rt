@@ -21,7 +21,7 @@ ghost use Rattle.voy_meta.specs.Allowed.{has_snapshot, writes};
 ghost use Rattle.voy_meta.specs.Meta.{MetaStands, meta_state};
 ghost use Rattle.voy_meta.specs.Meta.{is_live as meta_live};
 ghost use Rattle.voy_meta.specs.Sides.{leads_to, request_of};
-ghost use Rattle.voy_queue.specs.Putting.{end_behind, recorded_end};
+ghost use Rattle.voy_queue.specs.Putting.{MayFollowInTurn, end_behind, recorded_end};
 ghost use Rattle.voy_queue.specs.Writer.{WriterStands, closing_size, committed_end, is_live, pending, writer_role};
 
 use crate::committing::commit;
@@ -69,6 +69,8 @@ pub(crate) fn export_turns<D: Disk>(
         (ImagesOf (D.files export.old)) (ImagesOf (D.files export.new)))) }
     ensures end { AtEnd result (IfTold (D.files recording.old) (λ fs. committed_end writer.new
         ≡ end_behind schema.now.tables (closing_size writer.old) (committed_end writer.old) (end_left schema.now.tables writer.old todo (kept_left schema.now.tables feed.old keep.old fs)).puts)) }
+    ensures follow { AtEnd result (IfTold (D.files recording.old) (λ fs. MayFollowInTurn schema.now.tables (writer_role writer.old) (closing_size writer.old) (committed_end writer.old)
+        (end_left schema.now.tables writer.old todo (kept_left schema.now.tables feed.old keep.old fs)).puts)) }
     ensures recorded { AtEnd result (committed_end writer.new ≡ recorded_end (meta_state meta.new) (writer_role writer.new)) }
     ensures nothing { AtEnd result (pending writer.new ≡ []) }
     ensures writer { AtEnd result (WriterStands writer.new (D.files export.new)) }
