@@ -1,16 +1,16 @@
 -- What a whole export of changes comes to.
-use Rattle.std.specs.Prelude.{◌≡◌, ◌≢◌, ℕ, suc, ◌+◌, ◌-◌, ◌&&◌, not, Bool, true, false, List, [], ◌∷◌, Option, Some, None, length, if◌then◌else◌}
+use Rattle.std.specs.Prelude.{◌≡◌, ℕ, suc, ◌+◌, ◌-◌, ◌&&◌, not, Bool, true, false, List, [], ◌∷◌, Option, Some, length, if◌then◌else◌}
 use Rattle.std.proofs.Common.{arith, refl, sym, ap, subst, ◌∙◌}
 use Rattle.voy_disk.specs.Images.{Image}
-use Rattle.voy_disk.specs.Steps.{Every, Follows, From, Goes, Reaches}
+use Rattle.voy_disk.specs.Steps.{Follows, From, Goes, Reaches}
 use Rattle.voy_event.specs.Events.{is_change, is_cutover}
 use Rattle.voy_event.specs.declared.event.What.{What}
 use Rattle.voy_event.specs.declared.event.What.TheVariants.{Change, CutoverSource, CutoverTarget}
 use Rattle.voy_export.specs.Calls.{count_changes}
-use Rattle.voy_export.specs.Ends.{ChangesEnd, changes_end, export_end}
+use Rattle.voy_export.specs.Ends.{changes_end, export_end}
 use Rattle.voy_export.specs.Exports.{exports_in}
 use Rattle.voy_export.specs.Laws.{AreNext, ExportsAreNext}
-use Rattle.voy_export.specs.Recording.{Recording, recording_of}
+use Rattle.voy_export.specs.Recording.{recording_of}
 use Rattle.voy_export.specs.Sound.{SoundExports}
 use Rattle.voy_export.specs.Steps.{last_vsn}
 use Rattle.voy_export.proofs.TurnLemmas.{vsn_behind}

@@ -1,5 +1,5 @@
 -- What a commit leaves of an export disk, as it reads.
-use Rattle.std.specs.Prelude.{◌≡◌, ◌≢◌, ℕ, zero, suc, Bool, true, false, List, [], ◌∷◌, ◌++◌, Option, Some, None, ◌&&◌, is_some, length, map, not, take}
+use Rattle.std.specs.Prelude.{◌≡◌, ℕ, zero, suc, Bool, true, false, List, [], ◌∷◌, ◌++◌, Option, Some, None, ◌&&◌, is_some, length, map, not, take}
 use Rattle.std.specs.Option.{option_map}
 use Rattle.std.proofs.Common.{append_assoc, append-nil, inl, inr, refl, sym, ap, subst, ◌∙◌}
 use Rattle.voy_disk.specs.Calls.{Change}
@@ -10,7 +10,7 @@ use Rattle.voy_disk.specs.Images.{Image, ImagesOf}
 use Rattle.voy_disk.specs.Steps.{Does, Every, Follows, From, Goes, Lawful, LeavesPrefix, Reaches, SomeFirst, after_all}
 use Rattle.voy_export.proofs.ShelfLemmas.{entries_are_queue, mixed, mixed_contents, mixed_queue, mixed_was, shelf_agrees, snapshots_stay, steps_are_commits}
 use Rattle.voy_export.specs.Calls.{IsQueueFile}
-use Rattle.voy_export.specs.Exports.{Exports, contents, exports_in, snapshots_in}
+use Rattle.voy_export.specs.Exports.{contents, exports_in, snapshots_in}
 use Rattle.voy_export.specs.Laws.{AreNext, CommitsAreLawful}
 use Rattle.voy_export.specs.Put.{AreQueueRecords, HasPut}
 use Rattle.voy_export.specs.Recording.{Recording}
@@ -32,11 +32,11 @@ use Rattle.voy_meta.specs.Meta.{ReadsAs, records_in}
 use Rattle.voy_meta.specs.State.{empty_state, state_after, state_of}
 use Rattle.voy_meta.specs.declared.record.MetaRecord.{MetaRecord}
 use Rattle.voy_meta.specs.declared.state.MetaState.{MetaState}
-use Rattle.voy_queue.specs.Laws.{ArePut, FirstPartIsPut, StandsAsItself}
+use Rattle.voy_queue.specs.Laws.{FirstPartIsPut, StandsAsItself}
 use Rattle.voy_queue.specs.Writer.{names_of}
 use Rattle.voy_queue.specs.Names.{segment_name}
 use Rattle.voy_queue.specs.Putting.{MayFollowInTurn, Put, commit_of, end_at, entry_of, pending_with, recorded_end, shelf_with}
-use Rattle.voy_queue.specs.Shelf.{Commits, Shelf, StandsAs, shelf_after, shelf_in}
+use Rattle.voy_queue.specs.Shelf.{Shelf, StandsAs, shelf_after, shelf_in}
 use Rattle.voy_queue.specs.declared.end.Added.{Added}
 use Rattle.voy_queue.specs.declared.end.End.{End}
 use Rattle.voy_schema.specs.Lawful.{is_lawful}
@@ -90,7 +90,6 @@ module _ (schema : List Table) (role : Role) (state : MetaState) (old : Option F
 
 module _ (schema : List Table) (role : Role) (size : ℕ) (end : End) (state : MetaState) {old new : Option Files}
     (others : Change (KeepsBeside IsQueueFile) old new) (reads : Every (ImagesOf old) (ReadsAs state)) (itself : StandsAsItself) where
-
   -- an image that reads as the shelf with these puts has them, from one of before
   pub one_put : (puts : List Put) (i j : Image) → ImagesOf old i → ImagesOf new j → shelf_in j ≡ shelf_with schema role size (shelf_in i) end puts
       → HasPut schema role size end puts (mixed schema i j) j
@@ -146,7 +145,6 @@ some_same same = cc
 module _ (recording : Recording) (role : Role) (size : ℕ) (state : MetaState) {old new : Option Files} (others : Change (KeepsBeside IsQueueFile) old new)
     (reads : Every (ImagesOf old) (ReadsAs state)) (law : CommitsAreLawful) (lawful : is_lawful recording.schema ≡ true) (puts : List Put)
     (sound : Every (ImagesOf old) (λ image. SoundExports recording (exports_in recording.schema image))) where
-
   -- the commits of an image of before are lawful
   abbrev LawfulAt : Image → MetaState → ℕ → Type 0
   LawfulAt image s count = Lawful export_step (MayExport recording) (exports_in recording.schema image)
@@ -166,6 +164,7 @@ module _ (recording : Recording) (role : Role) (size : ℕ) (state : MetaState) 
     where
       here : SoundExports recording (exports_in recording.schema image)
       here = sound.each image is
+
       same : state_of here.entries ≡ state
       same = ap state_of (some_same (sym here.read ∙ (reads.each image is).read)) ∙ sym (reads.each image is).state_is
 
@@ -177,8 +176,10 @@ module _ (recording : Recording) (role : Role) (size : ℕ) (state : MetaState) 
   commit_moves pending end here pends may follows allowed next prefix = record { from = λ j is. by j is (prefix.from j is) } where
     pends_here : pending ≡ pending_with recording.schema size (recorded_end state role) [] puts
     pends_here = pends ∙ ap (λ (e : End). pending_with recording.schema size e [] puts) here
+
     steps_of : ℕ → List ExportStep
     steps_of count = map AddsEvents (map (commit_of role) (take count (pending_with recording.schema size (recorded_end state role) [] puts)))
+
     whole : (j before : Image) (count : ℕ) → ImagesOf old before → shelf_in j ≡ after_all shelf_after (shelf_in before) (take count (map (commit_of role) pending))
         → exports_in recording.schema j ≡ after_all export_step (exports_in recording.schema (mixed recording.schema before j)) (steps_of count)
     whole j before count was reads_on =
@@ -189,9 +190,10 @@ module _ (recording : Recording) (role : Role) (size : ℕ) (state : MetaState) 
         let same = shelf_agrees before i (mixed_queue recording.schema before j) in
         sym (steps_are_commits (exports_in recording.schema i) (map (commit_of role) xs)
         ∙ ap (λ (s : Shelf). record { shelf = s; snapshots = (exports_in recording.schema i).snapshots })
-            (ap (λ (s : Shelf). after_all shelf_after s (map (commit_of role) xs)) same ∙ sym made)
+        (ap (λ (s : Shelf). after_all shelf_after s (map (commit_of role) xs)) same ∙ sym made)
         ∙ ap (λ (snapshots : List (List ℕ)). record { shelf = shelf_in j; snapshots = snapshots })
-            (sym (same_snapshots recording.schema role state old reads xs before j was made)))
+        (sym (same_snapshots recording.schema role state old reads xs before j was made)))
+
     by : (j : Image) → ImagesOf new j → From (SomeFirst (Does shelf_in shelf_after) (map (commit_of role) pending)) (ImagesOf old) j
         → From (λ i k. Reaches export_step (MayExport recording) (exports_in recording.schema i) (exports_in recording.schema k)) (ImagesOf old) j
     by j is from =

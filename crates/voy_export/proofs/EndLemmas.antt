@@ -1,14 +1,13 @@
 -- What an export still adds, by what it finds next.
 use Rattle.std.specs.Prelude.{◌≡◌, ◌≢◌, ℕ, zero, suc, ◌+◌, ◌-◌, Bool, true, false, ◌&&◌, List, [], ◌∷◌, ◌++◌, Option, Some, None, is_none, length, nat_le, nat_lt, take, if◌then◌else◌}
-use Rattle.std.proofs.Common.{arith, refl, sym, ap, ◌∙◌}
+use Rattle.std.proofs.Common.{arith, refl, ap}
 use Rattle.std.proofs.lemmas.Bool.Decides.{nat_tests}
 use Rattle.voy_event.specs.declared.line_error.LineWhy.{LineWhy}
 use Rattle.voy_event.specs.declared.recorded.Recorded.{Recorded}
-use Rattle.voy_export.specs.Ends.{ChangesEnd, Stop, Wanted, behind_put, changes_end, finished, has_number, past, reads_on, stop_at, stop_behind, stop_of, up_to, wanted, wanted_changes, wanted_cutover, within_limits}
+use Rattle.voy_export.specs.Ends.{ChangesEnd, Stop, changes_end, finished, reads_on, stop_at, stop_behind, stop_of, wanted, wanted_changes, wanted_cutover, within_limits}
 use Rattle.voy_export.specs.Recording.{change_put, cutover_put}
 use Rattle.voy_export.specs.Turns.{at_stop, one_less}
-use Rattle.voy_feed.specs.Kept.{BadLine, ChangeReading, Numbered, behind_change, nothing_left, refused_at}
-use Rattle.voy_queue.specs.Putting.{Put, end_after}
+use Rattle.voy_feed.specs.Kept.{ChangeReading, Numbered, behind_change, nothing_left, refused_at}
 use Rattle.voy_queue.specs.declared.end.End.{End}
 use Rattle.voy_schema.specs.declared.table.Table.{Table}
 use Rattle.voy_tables.specs.declared.change.Role.{Role}
@@ -97,19 +96,19 @@ module _ (schema : List Table) (size : ℕ) (file : List ℕ) (role : Role) (at 
   end_some : (max : ℕ) (end : Bool) (less : Option ℕ) → less ≡ Some max
       → changes_end schema size file role at (Some (suc max)) end (behind_change line recorded rest)
       ≡ within_limits schema size file at
-          (record { put = change_put role (suc at.last_vsn) recorded; line = line } ∷ wanted role (suc at.last_vsn) less end rest)
-          (stop_behind file less end rest)
+      (record { put = change_put role (suc at.last_vsn) recorded; line = line } ∷ wanted role (suc at.last_vsn) less end rest)
+      (stop_behind file less end rest)
   end_some max end less is =
       rw (is, reads_less max end (length rest.changes))
       (ap (with_cutover_at (take max rest.changes) (end && (reads_on (Some max) end (length rest.changes) && is_none rest.refused))
-          (if reads_on (Some max) end (length rest.changes) then stop_of file rest.refused else finished)) (plus_some at.last_vsn (length (take max rest.changes))))
+      (if reads_on (Some max) end (length rest.changes) then stop_of file rest.refused else finished)) (plus_some at.last_vsn (length (take max rest.changes))))
 
   -- at a kept change that may be added
   pub end_change : (max : Option ℕ) (end : Bool) → max ≢ Some 0
       → changes_end schema size file role at max end (behind_change line recorded rest)
       ≡ within_limits schema size file at
-          (record { put = change_put role (suc at.last_vsn) recorded; line = line } ∷ wanted role (suc at.last_vsn) (one_less max) end rest)
-          (stop_behind file (one_less max) end rest)
+      (record { put = change_put role (suc at.last_vsn) recorded; line = line } ∷ wanted role (suc at.last_vsn) (one_less max) end rest)
+      (stop_behind file (one_less max) end rest)
   end_change None end some =
       ap (with_cutover_at rest.changes (end && is_none rest.refused) (stop_of file rest.refused)) (plus_some at.last_vsn (length rest.changes))
   end_change (Some zero) end some = absurd (some refl)

@@ -1,5 +1,5 @@
 -- What one put, or none, leaves of an export's end, and several one after the other.
-use Rattle.std.specs.Prelude.{◌≡◌, ◌≢◌, ℕ, zero, suc, Bool, true, false, List, [], ◌∷◌, ◌++◌, Option, Some, None, Result, Ok, Err, IfOk, IfSome, not}
+use Rattle.std.specs.Prelude.{◌≡◌, ◌≢◌, ℕ, Bool, true, false, List, [], ◌∷◌, ◌++◌, Option, Some, None, Result, Ok, Err, IfOk, IfSome, not}
 use Rattle.std.proofs.lemmas.Bool.Decides.{nat_tests}
 use Rattle.voy_disk.specs.Files.{Files, IfTold}
 use Rattle.voy_export.specs.declared.error.ExportError.{ExportError}
@@ -8,17 +8,16 @@ use Rattle.voy_meta.specs.Allowed.{spot_follows}
 use Rattle.voy_tables.specs.declared.change.Spot.{Spot}
 use Rattle.std.proofs.Common.{arith, refl, sym, ap, subst, ◌∙◌, append_assoc}
 use Rattle.voy_event.specs.declared.event.What.{What}
-use Rattle.voy_event.specs.declared.event.What.TheVariants.{Change, CutoverSource, CutoverTarget}
+use Rattle.voy_event.specs.declared.event.What.TheVariants.{Change}
 use Rattle.voy_event.specs.declared.line_error.LineWhy.{LineWhy}
 use Rattle.voy_event.specs.declared.recorded.Recorded.{Recorded}
 use Rattle.voy_export.proofs.EndLemmas.{IsOn, end_change, end_cutover, end_refused}
-use Rattle.voy_export.specs.Ends.{ChangesEnd, Stop, Wanted, behind_put, changes_end, finished, has_number, past, reads_on, stop_at, stop_behind, wanted, within_limits}
+use Rattle.voy_export.specs.Ends.{ChangesEnd, Stop, Wanted, behind_put, finished, has_number, past, reads_on, within_limits}
 use Rattle.voy_export.specs.Errors.{stop_told}
-use Rattle.voy_export.specs.Recording.{change_put, cutover_of, cutover_put}
+use Rattle.voy_export.specs.Recording.{cutover_of}
 use Rattle.voy_export.specs.Turns as turns
 use Rattle.voy_export.specs.Turns.{Gathers, PutsNone, PutsOne, StopsAt, at_stop, behind_puts, end_left, next_put, one_less, rest_of}
 use Rattle.voy_export.specs.declared.plan.Plan.{Plan}
-use Rattle.voy_export.specs.declared.plan.Refusal.{Refusal}
 use Rattle.voy_export.specs.declared.plan.Step.{Step}
 use Rattle.voy_export.specs.declared.plan.Step.TheVariants.{Finished, Put, Stopped}
 use Rattle.voy_feed.specs.Kept.{ChangeReading, behind_change, change_file, is_above, nothing_left, refused_at}
@@ -32,7 +31,6 @@ use Rattle.voy_queue.specs.declared.end.End.{End}
 use Rattle.voy_queue.specs.declared.writer.Writer.{Writer}
 use Rattle.voy_schema.specs.declared.table.Table.{Table}
 use Rattle.voy_tables.specs.declared.change.Role.{Role}
-use Rattle.voy_tables.specs.declared.change.Role.TheVariants as role
 
 pub gathers_one : (schema : List Table) (old new : Writer) (put : putting.Put) (before after : ChangesEnd)
     → PutsOne schema old new put → before ≡ behind_put put after → Gathers schema old new before after

@@ -1,17 +1,16 @@
 -- What a change of the files of the queue does to an export disk as it reads: the snapshots stay.
-use Rattle.std.specs.Prelude.{◌≡◌, ◌≢◌, ◌⊎◌, ℕ, suc, Bool, true, false, List, [], ◌∷◌, ◌++◌, Option, Some, None, codes, length, map, slice_get, take}
-use Rattle.std.specs.Option.{option_map}
-use Rattle.std.proofs.Common.{arith, inl, inr, refl, sym, ap, subst, ◌∙◌, append_assoc}
+use Rattle.std.specs.Prelude.{◌≡◌, ◌≢◌, ◌⊎◌, ℕ, suc, List, [], ◌∷◌, Option, Some, None, map}
+use Rattle.std.proofs.Common.{arith, inl, inr, refl, sym, ap, subst, ◌∙◌}
 use Rattle.voy_disk.specs.Calls.{Change, told, untold}
 use Rattle.voy_disk.specs.File.{File}
 use Rattle.voy_disk.specs.Files.{Files}
 use Rattle.voy_disk.specs.FrameLaws.{one_of_decides}
 use Rattle.voy_disk.specs.Frames.{KeepsBeside, OneOf}
-use Rattle.voy_disk.specs.Images.{Image, ImagesOf, IsImageAt, IsImageOf, bytes_in}
+use Rattle.voy_disk.specs.Images.{Image, ImagesOf, IsImageAt, bytes_in}
 use Rattle.voy_disk.specs.Steps.{after_all}
 use Rattle.voy_export.specs.Calls.{IsQueueFile, snapshot_files}
-use Rattle.voy_export.specs.Exports.{Exports, contents, exports_in, snapshots_in}
-use Rattle.voy_export.specs.Names.{csv_file, snapshot_file}
+use Rattle.voy_export.specs.Exports.{Exports, contents}
+use Rattle.voy_export.specs.Names.{snapshot_file}
 use Rattle.voy_export.specs.Put.{AreQueueRecords}
 use Rattle.voy_export.specs.Steps.{AddsEvents, export_step}
 use Rattle.voy_meta.specs.Meta.{meta_name, records_in, records_told}
@@ -23,8 +22,8 @@ use Rattle.voy_meta.specs.declared.state.SegmentState.{SegmentState}
 use Rattle.voy_meta.specs.declared.state.SnapshotState.{SnapshotState}
 use Rattle.voy_journal.specs.Grammar.{payloads_of}
 use Rattle.voy_queue.specs.Names.{segment_name}
-use Rattle.voy_queue.specs.Putting.{commit_of, entry_of}
-use Rattle.voy_queue.specs.Shelf.{Commits, Shelf, committed, segments_in, shelf_after, shelf_in}
+use Rattle.voy_queue.specs.Putting.{entry_of}
+use Rattle.voy_queue.specs.Shelf.{Commits, committed, segments_in, shelf_after, shelf_in}
 use Rattle.voy_queue.specs.declared.end.Added.{Added}
 use Rattle.voy_schema.specs.declared.table.Table.{Table}
 use Rattle.voy_tables.specs.declared.change.Role.{Role}

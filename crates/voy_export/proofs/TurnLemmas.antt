@@ -1,5 +1,5 @@
 -- Turns of an export one after the other.
-use Rattle.std.specs.Prelude.{◌≡◌, ◌≤◌, ℕ, zero, suc, ◌+◌, Bool, true, false, List, [], ◌∷◌, ◌++◌, Option, Some, None, drop, length, map, take}
+use Rattle.std.specs.Prelude.{◌≡◌, ℕ, ◌+◌, true, List, [], ◌∷◌, ◌++◌, Option, Some, None, drop, length, take}
 use Rattle.std.specs.Option.{option_map}
 use Rattle.std.proofs.Common.{arith, append_assoc, append-nil, refl, sym, ap, subst, ◌∙◌}
 use Rattle.std.proofs.Math.Seq.{drop-append_seam, take-append-add, take-append_seam}
@@ -16,22 +16,22 @@ use Rattle.voy_export.specs.Errors.{error_of, stop_told}
 use Rattle.voy_export.specs.declared.error.ExportError.{ExportError}
 use Rattle.voy_export.specs.declared.plan.Refusal.{Refusal}
 use Rattle.voy_export.specs.declared.plan.Refusal.TheVariants.{Limit, Line}
-use Rattle.voy_export.specs.Exports.{Exports, exports_in}
+use Rattle.voy_export.specs.Exports.{exports_in}
 use Rattle.voy_export.specs.Laws.{AreNext, StepsKeepSound}
 use Rattle.voy_export.specs.Put.{AddsQueueRecords, AreQueueRecords, HasPut}
 use Rattle.voy_export.specs.Recording.{Recording, whole_queue}
 use Rattle.voy_export.specs.Sound.{SoundExports}
-use Rattle.voy_export.specs.Steps.{ExportStep, MayExport, export_step, last_vsn}
+use Rattle.voy_export.specs.Steps.{MayExport, export_step, last_vsn}
 use Rattle.voy_export.specs.Turns.{Gathers, Turned, at_stop, behind_puts}
 use Rattle.voy_meta.specs.Allowed.{allowed_after}
 use Rattle.voy_meta.specs.FoldLaws.{allowed_on, state_on}
-use Rattle.voy_meta.specs.Meta.{ReadsAs, records_in}
-use Rattle.voy_meta.specs.State.{state_after, state_of}
+use Rattle.voy_meta.specs.Meta.{ReadsAs}
+use Rattle.voy_meta.specs.State.{state_after}
 use Rattle.voy_meta.specs.declared.record.MetaRecord.{MetaRecord}
 use Rattle.voy_meta.specs.declared.state.MetaState.{MetaState}
 use Rattle.voy_queue.specs.Laws.{EndsWithPuts, FollowsJoin, PendingJoins, PutsJoin, RoomIsThere, StandsAlikeWith, StandsAsInTurn, StandsAsItself}
 use Rattle.voy_queue.specs.Putting.{HasRoom, MayFollowInTurn, Put, end_after, end_behind, end_of, end_with, pending_with, recorded_end, shelf_with}
-use Rattle.voy_queue.specs.Shelf.{Shelf, StandsAs, shelf_in}
+use Rattle.voy_queue.specs.Shelf.{shelf_in}
 use Rattle.voy_queue.specs.Writer.{closing_size, committed_end, pending, writer_end, writer_role}
 use Rattle.voy_queue.specs.declared.end.End.{End}
 use Rattle.voy_queue.specs.declared.writer.Writer.{Writer}
@@ -107,8 +107,11 @@ module _ (join : PutsJoin) (alike : StandsAlikeWith) (turn : StandsAsInTurn) (sc
       on start = record {
         before = start.before;
         was = start.was;
-        by = (length xs + from.by.0, subst (λ (puts : List Put). HasPut schema role size end puts start.before k) (sym (ap (take (length xs + from.by.0)) whole ∙ take-append-add xs ys from.by.0))
-            (put_on end xs (take from.by.0 ys) start.before from.before k (room start.before start.was) start.by (subst (λ (e : End). HasPut schema role size e (take from.by.0 ys) from.before k) is from.by.1)));
+        by = (
+          length xs + from.by.0,
+          subst (λ (puts : List Put). HasPut schema role size end puts start.before k) (sym (ap (take (length xs + from.by.0)) whole ∙ take-append-add xs ys from.by.0))
+              (put_on end xs (take from.by.0 ys) start.before from.before k (room start.before start.was) start.by (subst (λ (e : End). HasPut schema role size e (take from.by.0 ys) from.before k) is from.by.1)),
+        );
       }
 
 -- all puts are some first ones of themselves and more
@@ -119,8 +122,11 @@ all_are_some schema role size end xs ys all {a} {b} whole first = record { from 
   by k from = record {
     before = from.before;
     was = from.was;
-    by = (length xs + 0, subst (λ (puts : List Put). HasPut schema role size end puts from.before k)
-        (sym (ap (take (length xs + 0)) whole ∙ take-append-add xs ys 0 ∙ append-nil xs)) from.by);
+    by = (
+      length xs + 0,
+      subst (λ (puts : List Put). HasPut schema role size end puts from.before k)
+          (sym (ap (take (length xs + 0)) whole ∙ take-append-add xs ys 0 ∙ append-nil xs)) from.by,
+    );
   }
 
 -- ---- what is next
@@ -150,8 +156,11 @@ some_more schema role size end xs zs all {a} {b} whole some = record { from = λ
       record {
         before = from.before;
         was = from.was;
-        by = (length (take n xs), subst (λ (puts : List Put). HasPut schema role size end puts from.before k)
-            (sym (ap (take (length (take n xs))) front ∙ take-append_seam (take n xs) (drop n xs ++ zs))) from.by.1);
+        by = (
+          length (take n xs),
+          subst (λ (puts : List Put). HasPut schema role size end puts from.before k)
+              (sym (ap (take (length (take n xs))) front ∙ take-append_seam (take n xs) (drop n xs ++ zs))) from.by.1,
+        );
       }
 
 -- what was pending where nothing was, as the commit takes it

@@ -1,9 +1,7 @@
 -- What contracts say of the calls of an export.
-use Rattle.std.specs.Prelude.{◌≡◌, ◌⊎◌, ℕ, List, [], ◌∷◌, ◌++◌, ◌+◌, Option, Some, None, Result, Ok, Err, length, map, suc, if◌then◌else◌}
-use Rattle.voy_disk.specs.Images.{Image}
-use Rattle.voy_disk.specs.Steps.{after_all}
+use Rattle.std.specs.Prelude.{◌≡◌, ◌⊎◌, ℕ, List, [], ◌∷◌, ◌+◌, Result, Ok, Err, length, map, suc, if◌then◌else◌}
 use Rattle.voy_event.specs.Events.{is_change}
-use Rattle.voy_export.specs.Ends.{Stop, finished, past, refused}
+use Rattle.voy_export.specs.Ends.{Stop, past, refused}
 use Rattle.voy_export.specs.Names.{snapshot_file}
 use Rattle.voy_export.specs.Steps.{AddsSnapshot, ExportStep}
 use Rattle.voy_export.specs.declared.error.ExportError.{ExportError}

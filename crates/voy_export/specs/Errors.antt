@@ -1,5 +1,5 @@
 -- What was refused, as an error, and as what ends an export.
-use Rattle.voy_export.specs.Ends.{Stop, finished, past, refused}
+use Rattle.voy_export.specs.Ends.{Stop, past, refused}
 use Rattle.voy_export.specs.declared.error.ExportError.{ExportError}
 use Rattle.voy_export.specs.declared.error.ExportError.TheVariants as error
 use Rattle.voy_export.specs.declared.plan.Refusal.{Refusal}

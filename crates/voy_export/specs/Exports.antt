@@ -1,5 +1,5 @@
 -- What an export disk holds of an export, as it reads: the records, the snapshot of each recorded table, and the queue.
-use Rattle.std.specs.Prelude.{◌≡◌, ℕ, List, [], ◌∷◌, ◌++◌, Option, Some, None, take}
+use Rattle.std.specs.Prelude.{ℕ, List, [], ◌∷◌, ◌++◌, Option, Some, None, take}
 use Rattle.voy_disk.specs.Images.{Image, bytes_in}
 use Rattle.voy_export.specs.Names.{snapshot_file}
 use Rattle.voy_meta.specs.State.{state_of}

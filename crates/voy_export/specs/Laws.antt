@@ -8,7 +8,6 @@ use Rattle.voy_export.specs.Recording.{Recording, recording_of, whole_queue}
 use Rattle.voy_export.specs.Sound.{SoundExports}
 use Rattle.voy_export.specs.Steps.{AddsEvents, ExportStep, MayExport, export_step, last_vsn}
 use Rattle.voy_meta.specs.Allowed.{allowed_after, writes}
-use Rattle.voy_meta.specs.Sides.{is_ended}
 use Rattle.voy_meta.specs.State.{state_of}
 use Rattle.voy_queue.specs.Putting.{MayFollowInTurn, Put, commit_of, entry_of, pending_with, recorded_end}
 use Rattle.voy_schema.specs.Lawful.{is_lawful}
@@ -42,4 +41,4 @@ CommitsAreLawful =
     → allowed_after (state_of sound.entries) (map (entry_of role) (pending_with recording.schema size (recorded_end (state_of sound.entries) role) [] puts)) ≡ true
     → AreNext recording (last_vsn (state_of sound.entries)) puts
     → Lawful export_step (MayExport recording) (exports_in recording.schema image)
-        (map AddsEvents (map (commit_of role) (take count (pending_with recording.schema size (recorded_end (state_of sound.entries) role) [] puts))))
+    (map AddsEvents (map (commit_of role) (take count (pending_with recording.schema size (recorded_end (state_of sound.entries) role) [] puts))))

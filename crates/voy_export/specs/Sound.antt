@@ -1,5 +1,5 @@
 -- When what an export disk holds is sound for a recording.
-use Rattle.std.specs.Prelude.{◌≡◌, ◌≢◌, ℕ, true, List, [], ◌∷◌, Option, Some, length, map, take}
+use Rattle.std.specs.Prelude.{◌≡◌, ◌≢◌, ℕ, true, List, [], ◌∷◌, Some, length, map, take}
 use Rattle.voy_export.specs.Exports.{Exports}
 use Rattle.voy_export.specs.Recording.{Recording}
 use Rattle.voy_export.specs.Steps.{first_puts, has_cutover, last_vsn, place_at}

@@ -1,12 +1,12 @@
 -- What an export does to an export disk, step by step, and the condition of each step.
-use Rattle.std.specs.Prelude.{◌≡◌, ℕ, ◌&&◌, if◌then◌else◌, Bool, true, List, [], ◌∷◌, ◌++◌, Option, Some, None, drop, length, map, slice_get, take}
+use Rattle.std.specs.Prelude.{◌≡◌, ℕ, ◌&&◌, if◌then◌else◌, Bool, true, List, [], ◌∷◌, ◌++◌, Option, Some, None, drop, length, slice_get, take}
 use Rattle.std.specs.List.{list_all, list_any}
 use Rattle.voy_event.specs.Events.{ends_part}
 use Rattle.voy_export.specs.Exports.{Exports, with_entry}
 use Rattle.voy_export.specs.Recording.{Recording, whole_queue}
 use Rattle.voy_meta.specs.Allowed.{is_allowed, vsn_before}
 use Rattle.voy_meta.specs.Sides.{is_role, last_segment}
-use Rattle.voy_meta.specs.State.{after_record, state_of}
+use Rattle.voy_meta.specs.State.{state_of}
 use Rattle.voy_meta.specs.declared.record.MetaRecord.{MetaRecord}
 use Rattle.voy_meta.specs.declared.record.MetaRecord.TheVariants.{Queue, Snapshot}
 use Rattle.voy_meta.specs.declared.state.MetaState.{MetaState}
@@ -14,7 +14,6 @@ use Rattle.voy_queue.specs.Laws.{events_of}
 use Rattle.voy_queue.specs.Putting.{Put, newer}
 use Rattle.voy_queue.specs.Reading.{reads_whole}
 use Rattle.voy_queue.specs.Shelf.{Commits, shelf_after, shelf_reading}
-use Rattle.voy_schema.specs.declared.table.Table.{Table}
 use Rattle.voy_schema.specs.declared.value.Value.{Value}
 use Rattle.voy_tables.specs.RowText.{row_lines}
 use Rattle.voy_tables.specs.declared.change.Role.{Role}

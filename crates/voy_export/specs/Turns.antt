@@ -1,5 +1,5 @@
 -- What the turns of an export of changes come to.
-use Rattle.std.specs.Prelude.{◌≡◌, ℕ, suc, ◌-◌, Bool, true, false, List, [], ◌∷◌, ◌++◌, Option, Some, None}
+use Rattle.std.specs.Prelude.{◌≡◌, ℕ, suc, ◌-◌, true, false, List, [], ◌++◌, Option, Some, None}
 use Rattle.voy_disk.specs.Files.{Files}
 use Rattle.voy_disk.specs.Images.{Image}
 use Rattle.voy_disk.specs.Steps.{Follows}

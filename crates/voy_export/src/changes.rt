@@ -22,8 +22,8 @@ ghost use Rattle.voy_queue.specs.Putting.{end_behind, recorded_end};
 ghost use Rattle.voy_queue.specs.Writer.{WriterStands, closing_size, committed_end, is_live, pending, writer_role};
 
 use crate::error::{ExportError, Which};
-use crate::laws::exports_are_next;
 use crate::exported::{Exported, exported_between};
+use crate::laws::exports_are_next;
 use crate::plan::Plan;
 use crate::turns::export_turns;
 use std::alloc::Global;
@@ -77,11 +77,11 @@ pub fn export_changes<D: Disk>(
     // at its end, whether it did all or was refused a line
     ensures all { AtEnd result (IfTold (D.files recording.old) (λ fs. Follows
         (HasPut schema.now.tables (writer_role writer.old) (closing_size writer.old) (recorded_end (meta_state meta.old) (writer_role writer.old))
-            (export_end schema.now.tables (closing_size writer.old) (now_image fs) (writer_role writer.old) (meta_state meta.old) max end).puts)
+        (export_end schema.now.tables (closing_size writer.old) (now_image fs) (writer_role writer.old) (meta_state meta.old) max end).puts)
         (ImagesOf (D.files export.old)) (ImagesOf (D.files export.new)))) }
     ensures end { AtEnd result (IfTold (D.files recording.old) (λ fs. recorded_end (meta_state meta.new) (writer_role writer.old)
         ≡ end_behind schema.now.tables (closing_size writer.old) (recorded_end (meta_state meta.old) (writer_role writer.old))
-            (export_end schema.now.tables (closing_size writer.old) (now_image fs) (writer_role writer.old) (meta_state meta.old) max end).puts)) }
+        (export_end schema.now.tables (closing_size writer.old) (now_image fs) (writer_role writer.old) (meta_state meta.old) max end).puts)) }
     ensures recorded { AtEnd result (committed_end writer.new ≡ recorded_end (meta_state meta.new) (writer_role writer.new)) }
     ensures nothing { AtEnd result (pending writer.new ≡ []) }
     ensures writer { AtEnd result (WriterStands writer.new (D.files export.new)) }
@@ -92,12 +92,12 @@ pub fn export_changes<D: Disk>(
     // whatever it answers
     ensures prefix { IfTold (D.files recording.old) (λ fs. Follows
         (SomeFirst (HasPut schema.now.tables (writer_role writer.old) (closing_size writer.old) (recorded_end (meta_state meta.old) (writer_role writer.old)))
-            (export_end schema.now.tables (closing_size writer.old) (now_image fs) (writer_role writer.old) (meta_state meta.old) max end).puts)
+        (export_end schema.now.tables (closing_size writer.old) (now_image fs) (writer_role writer.old) (meta_state meta.old) max end).puts)
         (ImagesOf (D.files export.old)) (ImagesOf (D.files export.new))) }
     ensures moves { IfTold (D.files recording.old) (λ fs.
         Every (ImagesOf (D.files export.old)) (λ image. SoundExports (recording_of schema.now.tables (now_image fs)) (exports_in schema.now.tables image))
         → Goes (exports_in schema.now.tables) export_step (MayExport (recording_of schema.now.tables (now_image fs)))
-            (ImagesOf (D.files export.old)) (ImagesOf (D.files export.new))) }
+        (ImagesOf (D.files export.old)) (ImagesOf (D.files export.new))) }
     ensures role { writer_role writer.new ≡ writer_role writer.old }
     ensures size { closing_size writer.new ≡ closing_size writer.old }
     ensures others { Change (KeepsBeside IsQueueFile) (D.files export.old) (D.files export.new) }

@@ -156,7 +156,14 @@ fn put_change(
     ensures memory { result ≡ Err ExportError.NoMemory ⊎ IsOk result }
 {
     let Recorded { spot, change } = recorded;
-    let step = put_event(alloc, schema, writer, line, What::Change(change), Some(spot))?;
+    let step = put_event(
+        alloc,
+        schema,
+        writer,
+        line,
+        What::Change(change),
+        Some(spot),
+    )?;
     *plan = plan.after_change();
     Ok(step)
 }

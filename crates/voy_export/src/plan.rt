@@ -1,6 +1,5 @@
-use voy_disk::Name;
-
 use crate::error::{ExportError, Why};
+use voy_disk::Name;
 
 /// What an export of changes has still to do.
 #[derive(Clone, Copy, Debug, PartialEq, Eq)]

@@ -65,7 +65,7 @@ pub(crate) fn export_turns<D: Disk>(
     // at its end
     ensures all { AtEnd result (IfTold (D.files recording.old) (λ fs. Follows
         (HasPut schema.now.tables (writer_role writer.old) (closing_size writer.old) (committed_end writer.old)
-            (end_left schema.now.tables writer.old todo (kept_left schema.now.tables feed.old keep.old fs)).puts)
+        (end_left schema.now.tables writer.old todo (kept_left schema.now.tables feed.old keep.old fs)).puts)
         (ImagesOf (D.files export.old)) (ImagesOf (D.files export.new)))) }
     ensures end { AtEnd result (IfTold (D.files recording.old) (λ fs. committed_end writer.new
         ≡ end_behind schema.now.tables (closing_size writer.old) (committed_end writer.old) (end_left schema.now.tables writer.old todo (kept_left schema.now.tables feed.old keep.old fs)).puts)) }
@@ -82,7 +82,7 @@ pub(crate) fn export_turns<D: Disk>(
     // whatever it answers
     ensures prefix { IfTold (D.files recording.old) (λ fs. Follows
         (SomeFirst (HasPut schema.now.tables (writer_role writer.old) (closing_size writer.old) (committed_end writer.old))
-            (end_left schema.now.tables writer.old todo (kept_left schema.now.tables feed.old keep.old fs)).puts)
+        (end_left schema.now.tables writer.old todo (kept_left schema.now.tables feed.old keep.old fs)).puts)
         (ImagesOf (D.files export.old)) (ImagesOf (D.files export.new))) }
     ensures moves { IfTold (D.files recording.old) (λ fs. (stated : Recording) → stated.schema ≡ schema.now.tables
         → AreNext stated (last_vsn (meta_state meta.old)) (end_left schema.now.tables writer.old todo (kept_left schema.now.tables feed.old keep.old fs)).puts
@@ -166,7 +166,7 @@ fn take_turn<D: Disk>(
     // whatever it answers
     ensures some { IfTold (D.files recording.old) (λ fs. Follows
         (SomeFirst (HasPut schema.now.tables (writer_role writer.old) (closing_size writer.old) (committed_end writer.old))
-            (end_left schema.now.tables writer.old plan.old (kept_left schema.now.tables feed.old keep.old fs)).puts)
+        (end_left schema.now.tables writer.old plan.old (kept_left schema.now.tables feed.old keep.old fs)).puts)
         (ImagesOf (D.files export.old)) (ImagesOf (D.files export.new))) }
     ensures moves { IfTold (D.files recording.old) (λ fs. (stated : Recording) → stated.schema ≡ schema.now.tables
         → AreNext stated (last_vsn (meta_state meta.old)) (end_left schema.now.tables writer.old plan.old (kept_left schema.now.tables feed.old keep.old fs)).puts
@@ -186,9 +186,7 @@ fn take_turn<D: Disk>(
 {
     // Laws of the queue; there is nothing to run.
     puts_go_on();
-    let step = gather(
-        alloc, schema, feed, keep, recording, writer, plan, from,
-    )?;
+    let step = gather(alloc, schema, feed, keep, recording, writer, plan, from)?;
     commit(writer, export, meta)?;
     Ok(step)
 }

@@ -1,4 +1,4 @@
-use Rattle.std.proofs.Common.{rules, refl, sym, ap, subst, ◌∙◌, ◌≡◌, Some}
+use Rattle.std.proofs.Common.{refl, sym, ap, subst, ◌∙◌, ◌≡◌, Some}
 use Rattle.voy_disk.specs.Files.{Files}
 use Rattle.voy_disk.specs.Images.{now_image}
 use Rattle.voy_export.proofs.ChangeLemmas.{between_ends, changes_between, end_is, goes_where, next_of, start_ended}
@@ -33,7 +33,7 @@ returns-in_err-export_turns-clause-moves g c = λ fs told sound.
     (λ i is. c.export_turns.ensures.moves fs told (recording_of c.args.schema.now.tables (now_image fs)) refl
     (subst (λ (e : ChangesEnd). AreNext (recording_of c.args.schema.now.tables (now_image fs)) (last_vsn (meta_state c.args.meta.now)) e.puts) (sym (same_end_err g c fs told))
     (next_of c.exports_are_next.ensures c.args.schema.now.tables (now_image fs) (meta_state c.args.meta.now) (writer_role c.args.writer.now) (closing_size c.args.writer.now) c.args.max c.args.end i
-        ((c.metadata_stand.ensures.state c.args.meta.now (g.D.Disk.files c.args.export.now) c.requires.stands).each i is) c.requires.may (sound.each i is))) sound)
+    ((c.metadata_stand.ensures.state c.args.meta.now (g.D.Disk.files c.args.export.now) c.requires.stands).each i is) c.requires.may (sound.each i is))) sound)
 
 same_end : (g : _) (c : goal.After-exported_between g) (fs : Files) → g.D.Disk.files c.args.recording.now ≡ Some fs
     → end_left c.args.schema.now.tables c.args.writer.now (record { left = c.args.max; end = c.args.end }) (kept_left c.args.schema.now.tables c.args.feed.now c.args.keep.now fs)
@@ -51,7 +51,7 @@ returns-clause-moves g c = λ fs told sound.
     (λ i is. c.export_turns.ensures.moves fs told (recording_of c.args.schema.now.tables (now_image fs)) refl
     (subst (λ (e : ChangesEnd). AreNext (recording_of c.args.schema.now.tables (now_image fs)) (last_vsn (meta_state c.args.meta.now)) e.puts) (sym (same_end g c fs told))
     (next_of c.exports_are_next.ensures c.args.schema.now.tables (now_image fs) (meta_state c.args.meta.now) (writer_role c.args.writer.now) (closing_size c.args.writer.now) c.args.max c.args.end i
-        ((c.metadata_stand.ensures.state c.args.meta.now (g.D.Disk.files c.args.export.now) c.requires.stands).each i is) c.requires.may (sound.each i is))) sound)
+    ((c.metadata_stand.ensures.state c.args.meta.now (g.D.Disk.files c.args.export.now) c.requires.stands).each i is) c.requires.may (sound.each i is))) sound)
 
 pub returns-clause-changes : goal.returns-clause-changes
 returns-clause-changes g c = λ fs told.
@@ -62,5 +62,5 @@ returns-clause-changes g c = λ fs told.
     (start_ended (writer_role c.args.writer.now) (meta_state c.args.meta.now) (committed_end c.args.writer.now) c.requires.recorded c.requires.may)
     (c.in_ok-export_turns.ensures.end fs told)
     (between_ends c.end-from.result c.end.result (committed_end c.args.writer.now) (committed_end c.export_turns.new.writer) c.exported_between.result.changes
-        (c.end-from.ensures ∙ from) (c.end.ensures ∙ to) c.exported_between.ensures.changes)
+    (c.end-from.ensures ∙ from) (c.end.ensures ∙ to) c.exported_between.ensures.changes)
     ∙ ap (λ (e : ChangesEnd). count_changes e.puts) (same_end g c fs told)

@@ -1,4 +1,4 @@
-use Rattle.std.proofs.Common.{rules, refl, sym, ap, subst, ◌∙◌, ◌≡◌, ℕ, Bool, true, false, List, [], ◌∷◌, ◌++◌, Option, Some, None}
+use Rattle.std.proofs.Common.{ap, ◌∙◌}
 use Rattle.voy_export.proofs.ShelfLemmas.{entries_are_queue}
 use Rattle.voy_queue.specs.Putting.{entry_of, recorded_end}
 use Rattle.std.proofs.Common.{map}
@@ -57,6 +57,6 @@ pub returns-in-Ok-clause-may : goal.returns-in-Ok-clause-may
 returns-in-Ok-clause-may g c = may_stay (writer_role c.args.writer.now) (meta_state c.args.meta.now) (meta_state c.commit.new.meta)
     (writer_end c.args.writer.now) (committed_end c.commit.new.self)
     (grows_by c.states_grow.ensures.all c.consistent.ensures.records (meta_state c.args.meta.now) (meta_state c.commit.new.meta) c.requires.stands.records.entries
-        (map (entry_of (writer_role c.args.writer.now)) (pending c.args.writer.now)) c.requires.stands.records.allowed c.requires.stands.records.state_is
-        c.commit.ensures.allowed c.in-Ok.ensures.state)
+    (map (entry_of (writer_role c.args.writer.now)) (pending c.args.writer.now)) c.requires.stands.records.allowed c.requires.stands.records.state_is
+    c.commit.ensures.allowed c.in-Ok.ensures.state)
     c.requires.may (c.in-Ok.ensures.recorded ∙ ap (recorded_end (meta_state c.commit.new.meta)) c.commit.ensures.role) c.in-Ok.ensures.end

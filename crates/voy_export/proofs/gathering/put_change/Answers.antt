@@ -1,4 +1,3 @@
-use Rattle.std.proofs.Common.{rules, refl, sym, ap, ◌∙◌, ◌≡◌, ℕ, Bool, true, false, List, [], ◌∷◌, ◌++◌, Some, None}
 use Rattle.voy_export.proofs.GatherLemmas.{change_gathers}
 use Rattle.voy_export.proofs.gathering.put_change.Goals as goal
 

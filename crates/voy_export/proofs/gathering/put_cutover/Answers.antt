@@ -1,4 +1,4 @@
-use Rattle.std.proofs.Common.{rules, refl, sym, ap, subst, ◌∙◌, ◌≡◌, ℕ, Bool, true, false, List, [], ◌∷◌, ◌++◌, Option, Some, None}
+use Rattle.std.proofs.Common.{ap, ◌∙◌}
 use Rattle.voy_export.proofs.GatherLemmas.{cutover_puts}
 use Rattle.voy_export.specs.Recording.{cutover_of}
 use Rattle.voy_export.proofs.gathering.put_cutover.Goals as goal

@@ -4,7 +4,6 @@ use Rattle.std.proofs.lemmas.Bool.{ltb-true}
 use Rattle.voy_export.proofs.SnapshotTurns.{found_at, turn_of_count}
 use Rattle.voy_export.proofs.SnapshotWrites.{none_beside}
 use Rattle.voy_meta.specs.Meta.{meta_state}
-use Rattle.voy_meta.specs.declared.state.MetaState.{MetaState}
 use Rattle.voy_export.proofs.tables.take_table.Goals as goal
 
 pub returns-then-is_recorded-clause-turns : goal.returns-then-is_recorded-clause-turns

@@ -1,11 +1,11 @@
-use Rattle.std.proofs.Common.{arith, true, is_some, rules, refl, sym, ap, subst, ◌∙◌, ◌≡◌, List, Some}
+use Rattle.std.proofs.Common.{arith, true, is_some, refl, sym, ap, subst, ◌∙◌, ◌≡◌, Some}
 use Rattle.voy_disk.specs.FrameLaws.{files_beside_again, files_beside_nothing}
 use Rattle.voy_disk.specs.Files.{Files}
-use Rattle.voy_disk.specs.Images.{Image, ImagesOf}
-use Rattle.voy_export.proofs.TurnLemmas.{TurnLaws, adds_nothing, adds_on, at_end, moves_on, put_nothing, room_at, stop_all, stop_end, stop_is, stop_may, stop_some, tells, turned_next, turned_nothing, turned_on, turned_some}
+use Rattle.voy_disk.specs.Images.{ImagesOf}
+use Rattle.voy_export.proofs.TurnLemmas.{adds_nothing, adds_on, at_end, moves_on, put_nothing, room_at, stop_all, stop_end, stop_is, stop_may, stop_some, tells, turned_next, turned_nothing, turned_on, turned_some}
 use Rattle.voy_export.specs.Calls.{IsQueueFile}
 use Rattle.voy_export.specs.Turns.{Turned, at_stop, end_left, kept_left, rest_of}
-use Rattle.voy_export.specs.Ends.{ChangesEnd, finished}
+use Rattle.voy_export.specs.Ends.{finished}
 use Rattle.voy_export.specs.Errors.{stop_told}
 use Rattle.voy_export.specs.declared.plan.Step.{Step}
 use Rattle.voy_meta.specs.Meta.{meta_state}
@@ -48,7 +48,7 @@ returns-in_err-step-clause-moves g c = λ fs told stated is next sound.
     moves_on c.turns.invariant.keeps stated sound (c.turns.invariant.moves fs told stated is next sound)
     (c.take_turn.ensures.moves fs (c.turns.invariant.same ∙ told) stated is
     (turned_next c.turns.invariant.laws.ends c.args.schema.now.tables (writer_role c.args.writer.now) (closing_size c.args.writer.now) (meta_state c.args.meta.now) (meta_state c.turns.meta)
-        (committed_end c.args.writer.now) (committed_end c.turns.writer) _ _ stated c.requires.recorded (writer_role c.turns.writer) c.turns.invariant.recorded turned next))
+    (committed_end c.args.writer.now) (committed_end c.turns.writer) _ _ stated c.requires.recorded (writer_role c.turns.writer) c.turns.invariant.recorded turned next))
 
 whole_finished : (g : _) (c : goal.In-Finished g) (fs : Files) → g.D.Disk.files c.args.recording.now ≡ Some fs
     → Turned c.args.schema.now.tables (writer_role c.args.writer.now) (closing_size c.args.writer.now) (committed_end c.args.writer.now) (end_left c.args.schema.now.tables c.args.writer.now c.args.todo (kept_left c.args.schema.now.tables c.args.feed.now c.args.keep.now fs)) (at_stop finished) (committed_end c.take_turn.new.writer)
@@ -58,8 +58,8 @@ whole_finished g c fs told =
     (end_left c.args.schema.now.tables c.args.writer.now c.args.todo (kept_left c.args.schema.now.tables c.args.feed.now c.args.keep.now fs)) (end_left c.args.schema.now.tables c.turns.writer c.turns.plan (kept_left c.args.schema.now.tables c.turns.feed c.turns.keep fs)) (at_stop finished) c.turns.invariant.room
     (writer_role c.turns.writer) (closing_size c.turns.writer) c.turns.invariant.role c.turns.invariant.size (c.turns.invariant.turned fs told)
     (subst (λ (s : Step). Turned c.args.schema.now.tables (writer_role c.turns.writer) (closing_size c.turns.writer) (committed_end c.turns.writer) (end_left c.args.schema.now.tables c.turns.writer c.turns.plan (kept_left c.args.schema.now.tables c.turns.feed c.turns.keep fs))
-        (rest_of s (end_left c.args.schema.now.tables c.take_turn.new.writer c.take_turn.new.plan (kept_left c.args.schema.now.tables c.take_turn.new.feed c.take_turn.new.keep fs))) (committed_end c.take_turn.new.writer) (ImagesOf (g.D.Disk.files c.turns.export)) (ImagesOf (g.D.Disk.files c.take_turn.new.export)))
-        c.in-Finished.is (c.in_ok-step.ensures.turned fs (c.turns.invariant.same ∙ told)))
+    (rest_of s (end_left c.args.schema.now.tables c.take_turn.new.writer c.take_turn.new.plan (kept_left c.args.schema.now.tables c.take_turn.new.feed c.take_turn.new.keep fs))) (committed_end c.take_turn.new.writer) (ImagesOf (g.D.Disk.files c.turns.export)) (ImagesOf (g.D.Disk.files c.take_turn.new.export)))
+    c.in-Finished.is (c.in_ok-step.ensures.turned fs (c.turns.invariant.same ∙ told)))
 
 whole_stopped : (g : _) (c : goal.After-from g) (fs : Files) → g.D.Disk.files c.args.recording.now ≡ Some fs
     → Turned c.args.schema.now.tables (writer_role c.args.writer.now) (closing_size c.args.writer.now) (committed_end c.args.writer.now) (end_left c.args.schema.now.tables c.args.writer.now c.args.todo (kept_left c.args.schema.now.tables c.args.feed.now c.args.keep.now fs)) (at_stop (stop_told c.in-Stopped.refusal)) (committed_end c.take_turn.new.writer)
@@ -69,8 +69,8 @@ whole_stopped g c fs told =
     (end_left c.args.schema.now.tables c.args.writer.now c.args.todo (kept_left c.args.schema.now.tables c.args.feed.now c.args.keep.now fs)) (end_left c.args.schema.now.tables c.turns.writer c.turns.plan (kept_left c.args.schema.now.tables c.turns.feed c.turns.keep fs)) (at_stop (stop_told c.in-Stopped.refusal)) c.turns.invariant.room
     (writer_role c.turns.writer) (closing_size c.turns.writer) c.turns.invariant.role c.turns.invariant.size (c.turns.invariant.turned fs told)
     (subst (λ (s : Step). Turned c.args.schema.now.tables (writer_role c.turns.writer) (closing_size c.turns.writer) (committed_end c.turns.writer) (end_left c.args.schema.now.tables c.turns.writer c.turns.plan (kept_left c.args.schema.now.tables c.turns.feed c.turns.keep fs))
-        (rest_of s (end_left c.args.schema.now.tables c.take_turn.new.writer c.take_turn.new.plan (kept_left c.args.schema.now.tables c.take_turn.new.feed c.take_turn.new.keep fs))) (committed_end c.take_turn.new.writer) (ImagesOf (g.D.Disk.files c.turns.export)) (ImagesOf (g.D.Disk.files c.take_turn.new.export)))
-        c.in-Stopped.is (c.in_ok-step.ensures.turned fs (c.turns.invariant.same ∙ told)))
+    (rest_of s (end_left c.args.schema.now.tables c.take_turn.new.writer c.take_turn.new.plan (kept_left c.args.schema.now.tables c.take_turn.new.feed c.take_turn.new.keep fs))) (committed_end c.take_turn.new.writer) (ImagesOf (g.D.Disk.files c.turns.export)) (ImagesOf (g.D.Disk.files c.take_turn.new.export)))
+    c.in-Stopped.is (c.in_ok-step.ensures.turned fs (c.turns.invariant.same ∙ told)))
 
 pub returns-in-Finished-clause-done : goal.returns-in-Finished-clause-done
 returns-in-Finished-clause-done g c = λ fs told. stop_is c.args.schema.now.tables (writer_role c.args.writer.now) (closing_size c.args.writer.now) (committed_end c.args.writer.now) (committed_end c.take_turn.new.writer) (end_left c.args.schema.now.tables c.args.writer.now c.args.todo (kept_left c.args.schema.now.tables c.args.feed.now c.args.keep.now fs)) finished (whole_finished g c fs told)
@@ -90,7 +90,7 @@ returns-in-Finished-clause-moves g c = λ fs told stated is next sound.
     moves_on c.turns.invariant.keeps stated sound (c.turns.invariant.moves fs told stated is next sound)
     (c.take_turn.ensures.moves fs (c.turns.invariant.same ∙ told) stated is
     (turned_next c.turns.invariant.laws.ends c.args.schema.now.tables (writer_role c.args.writer.now) (closing_size c.args.writer.now) (meta_state c.args.meta.now) (meta_state c.turns.meta)
-        (committed_end c.args.writer.now) (committed_end c.turns.writer) _ _ stated c.requires.recorded (writer_role c.turns.writer) c.turns.invariant.recorded turned next))
+    (committed_end c.args.writer.now) (committed_end c.turns.writer) _ _ stated c.requires.recorded (writer_role c.turns.writer) c.turns.invariant.recorded turned next))
 
 pub returns-in-Stopped-clause-told : goal.returns-in-Stopped-clause-told
 returns-in-Stopped-clause-told g c = λ fs told. tells (end_left c.args.schema.now.tables c.args.writer.now c.args.todo (kept_left c.args.schema.now.tables c.args.feed.now c.args.keep.now fs)) c.in-Stopped.refusal c.from.result (stop_is c.args.schema.now.tables (writer_role c.args.writer.now) (closing_size c.args.writer.now) (committed_end c.args.writer.now) (committed_end c.take_turn.new.writer) (end_left c.args.schema.now.tables c.args.writer.now c.args.todo (kept_left c.args.schema.now.tables c.args.feed.now c.args.keep.now fs)) (stop_told c.in-Stopped.refusal) (whole_stopped g c fs told)) c.from.ensures
@@ -110,7 +110,7 @@ returns-in-Stopped-clause-moves g c = λ fs told stated is next sound.
     moves_on c.turns.invariant.keeps stated sound (c.turns.invariant.moves fs told stated is next sound)
     (c.take_turn.ensures.moves fs (c.turns.invariant.same ∙ told) stated is
     (turned_next c.turns.invariant.laws.ends c.args.schema.now.tables (writer_role c.args.writer.now) (closing_size c.args.writer.now) (meta_state c.args.meta.now) (meta_state c.turns.meta)
-        (committed_end c.args.writer.now) (committed_end c.turns.writer) _ _ stated c.requires.recorded (writer_role c.turns.writer) c.turns.invariant.recorded turned next))
+    (committed_end c.args.writer.now) (committed_end c.turns.writer) _ _ stated c.requires.recorded (writer_role c.turns.writer) c.turns.invariant.recorded turned next))
 
 pub turns-init : goal.turns-init
 turns-init g c = record {
@@ -162,8 +162,8 @@ whole_put g c fs told =
     (end_left c.args.schema.now.tables c.args.writer.now c.args.todo (kept_left c.args.schema.now.tables c.args.feed.now c.args.keep.now fs)) (end_left c.args.schema.now.tables c.turns.writer c.turns.plan (kept_left c.args.schema.now.tables c.turns.feed c.turns.keep fs)) (end_left c.args.schema.now.tables c.take_turn.new.writer c.take_turn.new.plan (kept_left c.args.schema.now.tables c.take_turn.new.feed c.take_turn.new.keep fs)) c.turns.invariant.room
     (writer_role c.turns.writer) (closing_size c.turns.writer) c.turns.invariant.role c.turns.invariant.size (c.turns.invariant.turned fs told)
     (subst (λ (s : Step). Turned c.args.schema.now.tables (writer_role c.turns.writer) (closing_size c.turns.writer) (committed_end c.turns.writer) (end_left c.args.schema.now.tables c.turns.writer c.turns.plan (kept_left c.args.schema.now.tables c.turns.feed c.turns.keep fs))
-        (rest_of s (end_left c.args.schema.now.tables c.take_turn.new.writer c.take_turn.new.plan (kept_left c.args.schema.now.tables c.take_turn.new.feed c.take_turn.new.keep fs))) (committed_end c.take_turn.new.writer) (ImagesOf (g.D.Disk.files c.turns.export)) (ImagesOf (g.D.Disk.files c.take_turn.new.export)))
-        c.in-Put.is (c.in_ok-step.ensures.turned fs (c.turns.invariant.same ∙ told)))
+    (rest_of s (end_left c.args.schema.now.tables c.take_turn.new.writer c.take_turn.new.plan (kept_left c.args.schema.now.tables c.take_turn.new.feed c.take_turn.new.keep fs))) (committed_end c.take_turn.new.writer) (ImagesOf (g.D.Disk.files c.turns.export)) (ImagesOf (g.D.Disk.files c.take_turn.new.export)))
+    c.in-Put.is (c.in_ok-step.ensures.turned fs (c.turns.invariant.same ∙ told)))
 
 pub turns-preserved : goal.turns-preserved
 turns-preserved g c = record {
@@ -172,11 +172,11 @@ turns-preserved g c = record {
   room = c.turns.invariant.room;
   turned = λ fs told. whole_put g c fs told;
   moves = λ fs told stated is next sound.
-    let turned = c.turns.invariant.turned fs told in
-    moves_on c.turns.invariant.keeps stated sound (c.turns.invariant.moves fs told stated is next sound)
-    (c.take_turn.ensures.moves fs (c.turns.invariant.same ∙ told) stated is
-    (turned_next c.turns.invariant.laws.ends c.args.schema.now.tables (writer_role c.args.writer.now) (closing_size c.args.writer.now) (meta_state c.args.meta.now) (meta_state c.turns.meta)
-        (committed_end c.args.writer.now) (committed_end c.turns.writer) _ _ stated c.requires.recorded (writer_role c.turns.writer) c.turns.invariant.recorded turned next));
+      let turned = c.turns.invariant.turned fs told in
+      moves_on c.turns.invariant.keeps stated sound (c.turns.invariant.moves fs told stated is next sound)
+      (c.take_turn.ensures.moves fs (c.turns.invariant.same ∙ told) stated is
+      (turned_next c.turns.invariant.laws.ends c.args.schema.now.tables (writer_role c.args.writer.now) (closing_size c.args.writer.now) (meta_state c.args.meta.now) (meta_state c.turns.meta)
+      (committed_end c.args.writer.now) (committed_end c.turns.writer) _ _ stated c.requires.recorded (writer_role c.turns.writer) c.turns.invariant.recorded turned next));
   feed = c.take_turn.ensures.feed;
   place = c.in_ok-step.ensures.place c.in-Put.is;
   goes_on = c.in_ok-step.ensures.goes_on c.in-Put.is;

@@ -1,10 +1,8 @@
-use Rattle.std.proofs.Common.{rules, refl, sym, ap, subst, ◌∙◌, ◌≡◌, ℕ, true, List, ◌++◌, []}
+use Rattle.std.proofs.Common.{refl, sym, ap, subst, ◌≡◌, true, List, []}
 use Rattle.voy_disk.specs.FrameLaws.{files_beside_nothing}
 use Rattle.voy_export.proofs.TurnLemmas.{follows_alone, gathered_some, next_front, pends_alone}
 use Rattle.voy_export.specs.Calls.{IsQueueFile}
 use Rattle.voy_export.specs.Ends.{ChangesEnd}
-use Rattle.voy_export.specs.Recording.{Recording}
-use Rattle.voy_export.specs.Turns.{Gathers, end_left, kept_left, rest_of}
 use Rattle.voy_meta.specs.Meta.{meta_state}
 use Rattle.voy_queue.specs.Putting.{MayFollowInTurn, pending_with}
 use Rattle.voy_queue.specs.Writer.{closing_size, committed_end, pending, writer_role}
