@@ -1,10 +1,11 @@
 -- What a commit leaves of an export disk, as it reads.
-use Rattle.std.specs.Prelude.{◌≡◌, ◌≢◌, ℕ, zero, suc, Bool, true, false, List, [], ◌∷◌, ◌++◌, Option, Some, None, length, map, take}
+use Rattle.std.specs.Prelude.{◌≡◌, ◌≢◌, ℕ, zero, suc, Bool, true, false, List, [], ◌∷◌, ◌++◌, Option, Some, None, ◌&&◌, is_some, length, map, not, take}
 use Rattle.std.specs.Option.{option_map}
-use Rattle.std.proofs.Common.{append_assoc, append-nil, refl, sym, ap, subst, ◌∙◌}
+use Rattle.std.proofs.Common.{append_assoc, append-nil, inl, inr, refl, sym, ap, subst, ◌∙◌}
 use Rattle.voy_disk.specs.Calls.{Change}
 use Rattle.voy_disk.specs.Files.{Files}
-use Rattle.voy_disk.specs.Frames.{KeepsBeside}
+use Rattle.voy_disk.specs.FrameLaws.{files_beside_more}
+use Rattle.voy_disk.specs.Frames.{KeepsBeside, OneOf}
 use Rattle.voy_disk.specs.Images.{Image, ImagesOf}
 use Rattle.voy_disk.specs.Steps.{Does, Every, Follows, From, Goes, Lawful, LeavesPrefix, Reaches, SomeFirst, after_all}
 use Rattle.voy_export.proofs.ShelfLemmas.{entries_are_queue, mixed, mixed_contents, mixed_queue, mixed_was, shelf_agrees, snapshots_stay, steps_are_commits}
@@ -15,14 +16,26 @@ use Rattle.voy_export.specs.Put.{AreQueueRecords, HasPut}
 use Rattle.voy_export.specs.Recording.{Recording}
 use Rattle.voy_export.specs.Sound.{SoundExports}
 use Rattle.voy_export.specs.Steps.{AddsEvents, ExportStep, MayExport, export_step, last_vsn}
-use Rattle.voy_meta.specs.Allowed.{allowed_after, writes}
+use Rattle.std.proofs.lemmas.Bool.{and_from, and_parts}
+use Rattle.voy_meta.specs.Growing.{Grows, GrowsByAll}
+use Rattle.voy_meta.specs.StateLaws.{RecordsAreConsistent}
+use Rattle.voy_meta.specs.Stands.{IsConsistent}
+use Rattle.voy_meta.specs.Sides.{is_ended, last_of, last_segment, request_of}
+use Rattle.voy_meta.specs.declared.state.SegmentState.{SegmentState}
+use Rattle.voy_tables.specs.declared.change.Spot.{Spot}
+use Rattle.voy_tables.specs.declared.change.Role.TheVariants as role
+use Rattle.voy_tables.specs.declared.change.Side.{Side}
+use Rattle.voy_tables.specs.declared.change.Side.TheVariants as side
+use Rattle.voy_meta.specs.Allowed.{allowed_after, are_allowed, has_fall_back, has_snapshot, says_fall_back, vsn_before, writes}
 use Rattle.voy_meta.specs.FoldLaws.{state_on}
 use Rattle.voy_meta.specs.Meta.{ReadsAs, records_in}
-use Rattle.voy_meta.specs.State.{empty_state, state_of}
+use Rattle.voy_meta.specs.State.{empty_state, state_after, state_of}
 use Rattle.voy_meta.specs.declared.record.MetaRecord.{MetaRecord}
 use Rattle.voy_meta.specs.declared.state.MetaState.{MetaState}
 use Rattle.voy_queue.specs.Laws.{ArePut, FirstPartIsPut, StandsAsItself}
-use Rattle.voy_queue.specs.Putting.{MayFollowInTurn, Put, commit_of, entry_of, pending_with, recorded_end, shelf_with}
+use Rattle.voy_queue.specs.Writer.{names_of}
+use Rattle.voy_queue.specs.Names.{segment_name}
+use Rattle.voy_queue.specs.Putting.{MayFollowInTurn, Put, commit_of, end_at, entry_of, pending_with, recorded_end, shelf_with}
 use Rattle.voy_queue.specs.Shelf.{Commits, Shelf, StandsAs, shelf_after, shelf_in}
 use Rattle.voy_queue.specs.declared.end.Added.{Added}
 use Rattle.voy_queue.specs.declared.end.End.{End}
@@ -34,6 +47,18 @@ take_map : {A B : Type 0} (f : A → B) (n : ℕ) (xs : List A) → take n (map 
 take_map f zero xs = refl
 take_map f (suc n) [] = refl
 take_map f (suc n) (x ∷ xs) = ap (λ rest. f x ∷ rest) (take_map f n xs)
+
+-- the files of a commit are files of the queue
+names_are_queue : (pending : List Added) (name : List ℕ) → OneOf (names_of pending) name → IsQueueFile name
+names_are_queue pending name (inl is) = inl is
+names_are_queue pending name (inr one) = segments pending one where
+  segments : (pending : List Added) → OneOf (map (λ (one : Added). segment_name one.end.number) pending) name → IsQueueFile name
+  segments [] none = absurd none
+  segments (one ∷ more) (inl is) = inr (one.end.number, is)
+  segments (one ∷ more) (inr other) = segments more other
+
+pub queue_files : (pending : List Added) {old new : Option Files} → Change (KeepsBeside (OneOf (names_of pending))) old new → Change (KeepsBeside IsQueueFile) old new
+queue_files pending keeps = files_beside_more (OneOf (names_of pending)) IsQueueFile (names_are_queue pending) keeps
 
 -- the snapshots that are read with Queue records more
 snapshots_more : (schema : List Table) (image : Image) (records : Option (List MetaRecord)) (entries more : List MetaRecord) → AreQueueRecords more
@@ -182,3 +207,66 @@ module _ (recording : Recording) (role : Role) (size : ℕ) (state : MetaState) 
             ends = whole j from.before from.by.0 from.was from.by.1;
           };
         }
+
+-- what a commit leaves of a state that grows
+pub snapshot_grows : (old new : MetaState) → Grows old new → has_snapshot old ≡ true → has_snapshot new ≡ true
+snapshot_grows old new grows has = let all = grows.all has in rw (all.0, all.1) has
+
+asked_grows_at : (to : Side) (old new : MetaState) (asked : Option Bool) → Grows old new → request_of to old ≡ asked → is_some asked ≡ true → is_some (request_of to new) ≡ true
+asked_grows_at to old new None grows is some = cc
+asked_grows_at to old new (Some b) grows is some = ap is_some (grows.requests to b is)
+
+pub asked_grows : (to : Side) (old new : MetaState) → Grows old new → is_some (request_of to old) ≡ true → is_some (request_of to new) ≡ true
+asked_grows to old new grows some = asked_grows_at to old new (request_of to old) grows refl some
+
+fall_back_grows : (old new : MetaState) → Grows old new → has_fall_back old ≡ true → has_fall_back new ≡ true
+fall_back_grows old new grows has =
+    let parts = and_parts old.done_target (says_fall_back old.request_target) has in
+    and_from new.done_target (says_fall_back new.request_target) (grows.done side.Target parts.0) (by old.request_target refl parts.1)
+  where
+    by : (asked : Option Bool) → old.request_target ≡ asked → says_fall_back asked ≡ true → says_fall_back new.request_target ≡ true
+    by None is says = cc
+    by (Some b) is says = ap says_fall_back (grows.requests side.Target b is) ∙ says
+
+pub may_grows : (r : Role) (old new : MetaState) → Grows old new → writes old r ≡ true → is_ended r new ≡ false → writes new r ≡ true
+may_grows role.Source old new grows may ended = rw ended refl
+may_grows role.Target old new grows may ended =
+    let parts = and_parts old.ended_source (has_fall_back old && not old.ended_target) may in
+    let fall = and_parts (has_fall_back old) (not old.ended_target) parts.1 in
+    and_from new.ended_source (has_fall_back new && not new.ended_target) (grows.ended role.Source parts.0).0
+    (and_from (has_fall_back new) (not new.ended_target) (fall_back_grows old new grows fall.0) (rw ended refl))
+
+ended_at : (spot : Option Spot) (ended : Bool) (count : ℕ) (last : Option SegmentState) → (end_at spot ended count last).ended ≡ ended
+ended_at spot ended count None = refl
+ended_at spot ended count (Some last) = refl
+
+-- the recorded end is that of an exporter whose part is ended where it is
+pub recorded_ended : (state : MetaState) (r : Role) → (recorded_end state r).ended ≡ is_ended r state
+recorded_ended state r = ended_at (last_of r state) (is_ended r state) (length state.segments) (last_segment state)
+
+vsn_at : (spot : Option Spot) (ended : Bool) (count : ℕ) (last : Option SegmentState) → (end_at spot ended count last).last_vsn ≡ vsn_before last
+vsn_at spot ended count None = refl
+vsn_at spot ended count (Some last) = refl
+
+-- and has the last recorded vsn
+pub recorded_vsn : (state : MetaState) (r : Role) → (recorded_end state r).last_vsn ≡ last_vsn state
+recorded_vsn state r = vsn_at (last_of r state) (is_ended r state) (length state.segments) (last_segment state)
+
+spot_at : (spot : Option Spot) (ended : Bool) (count : ℕ) (last : Option SegmentState) → (end_at spot ended count last).spot ≡ spot
+spot_at spot ended count None = refl
+spot_at spot ended count (Some last) = refl
+
+-- and the exporter's last place
+pub recorded_spot : (state : MetaState) (r : Role) → (recorded_end state r).spot ≡ last_of r state
+recorded_spot state r = spot_at (last_of r state) (is_ended r state) (length state.segments) (last_segment state)
+
+-- the exporter still writes where it has not put its cutover
+pub may_stay : (r : Role) (old new : MetaState) (here there : End) → Grows old new → writes old r ≡ true → there ≡ recorded_end new r → there ≡ here → here.ended ≡ false
+    → writes new r ≡ true
+may_stay r old new here there grows may recorded same ended =
+    may_grows r old new grows may (sym (recorded_ended new r) ∙ ap (λ (e : End). e.ended) (sym recorded ∙ same) ∙ ended)
+
+pub grows_by : GrowsByAll → RecordsAreConsistent → (state new : MetaState) (entries more : List MetaRecord) → are_allowed entries ≡ true → state ≡ state_of entries
+    → allowed_after state more ≡ true → new ≡ state_after state more → Grows state new
+grows_by grow consistent state new entries more allowed is more_allowed new_is =
+    subst (Grows state) (sym new_is) (grow state more (subst IsConsistent (sym is) (consistent entries allowed)) more_allowed)

@@ -167,14 +167,14 @@ module _ (schema : List Table) (writer : Writer) (plan : Plan) (files : Option F
     never Finished stops = stops
     never (Stopped refusal) stops = stops
 
-same_pending : (schema : List Table) (s t : ℕ) (e f : End) (p q : List Added) (puts : List putting.Put) → s ≡ t → e ≡ f → p ≡ q
+pub same_pending : (schema : List Table) (s t : ℕ) (e f : End) (p q : List Added) (puts : List putting.Put) → s ≡ t → e ≡ f → p ≡ q
     → pending_with schema s e p puts ≡ pending_with schema t f q puts
 same_pending schema s t e f p q puts size end pends = rw (size, end, pends) refl
 
 same_end : (e f : End) (p q : List Added) → e ≡ f → p ≡ q → end_of e p ≡ end_of f q
 same_end e f p q end pends = rw (end, pends) refl
 
-same_may : (schema : List Table) (r : Role) (s : ℕ) (e : End) (q : Role) (t : ℕ) (f : End) (puts : List putting.Put) → r ≡ q → s ≡ t → e ≡ f
+pub same_may : (schema : List Table) (r : Role) (s : ℕ) (e : End) (q : Role) (t : ℕ) (f : End) (puts : List putting.Put) → r ≡ q → s ≡ t → e ≡ f
     → MayFollowInTurn schema r s e puts → MayFollowInTurn schema q t f puts
 same_may schema r s e q t f puts role size end may =
     subst (λ (x : Role). MayFollowInTurn schema x t f puts) role

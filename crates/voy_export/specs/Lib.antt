@@ -5,7 +5,8 @@ pub mod Exports
 pub mod Steps
 pub mod Sound
 pub mod Calls
+pub mod Snapshots
 pub mod Errors
-pub mod Turns
 pub mod Laws
 pub mod Put
+pub mod Turns

@@ -1,10 +1,13 @@
 -- What an export of changes leaves on the export disk.
-use Rattle.std.specs.Prelude.{◌≡◌, ℕ, List, [], ◌∷◌, ◌++◌}
+use Rattle.std.specs.Prelude.{◌≡◌, ℕ, true, List, [], ◌∷◌, ◌++◌}
 use Rattle.std.specs.Option.{option_map}
 use Rattle.voy_disk.specs.Images.{Image}
 use Rattle.voy_export.specs.Exports.{exports_in}
+use Rattle.voy_meta.specs.Allowed.{allowed_after}
+use Rattle.voy_meta.specs.State.{state_after}
 use Rattle.voy_meta.specs.declared.record.MetaRecord.{MetaRecord}
 use Rattle.voy_meta.specs.declared.record.MetaRecord.TheVariants.{Queue}
+use Rattle.voy_meta.specs.declared.state.MetaState.{MetaState}
 use Rattle.voy_queue.specs.Putting.{Put, shelf_with}
 use Rattle.voy_queue.specs.Shelf.{StandsAs, shelf_in}
 use Rattle.voy_queue.specs.declared.end.End.{End}
@@ -27,3 +30,10 @@ pub record HasPut (schema : List Table) (role : Role) (size : ℕ) (end : End) (
   pub queue : AreQueueRecords more
   pub records : (shelf_in j).records ≡ option_map (λ entries. entries ++ more) (shelf_in i).records
   pub snapshots : (exports_in schema j).snapshots ≡ (exports_in schema i).snapshots
+
+-- a state has Queue records more, each allowed behind those in front of it
+pub record AddsQueueRecords (old new : MetaState) : Type 0 where
+  pub more : List MetaRecord
+  pub queue : AreQueueRecords more
+  pub allowed : allowed_after old more ≡ true
+  pub state : new ≡ state_after old more

@@ -1,6 +1,9 @@
 -- What the turns of an export of changes come to.
 use Rattle.std.specs.Prelude.{◌≡◌, ℕ, suc, ◌-◌, Bool, true, false, List, [], ◌∷◌, ◌++◌, Option, Some, None}
 use Rattle.voy_disk.specs.Files.{Files}
+use Rattle.voy_disk.specs.Images.{Image}
+use Rattle.voy_disk.specs.Steps.{Follows}
+use Rattle.voy_export.specs.Put.{HasPut}
 use Rattle.voy_export.specs.Ends.{ChangesEnd, Stop, changes_end, finished, has_number, stop_at}
 use Rattle.voy_export.specs.Errors.{stop_told}
 use Rattle.voy_export.specs.declared.plan.Plan.{Plan}
@@ -17,8 +20,9 @@ use Rattle.voy_feed.specs.Kept.{ChangeReading, change_file, kept_reading}
 use Rattle.voy_feed.specs.declared.feed.Feed.{Feed}
 use Rattle.voy_feed.specs.declared.keep.Keep.{Keep}
 use Rattle.voy_queue.specs.Putting as putting
-use Rattle.voy_queue.specs.Putting.{MayFollow, MayFollowInTurn, end_after, pending_after, pending_with}
+use Rattle.voy_queue.specs.Putting.{MayFollow, MayFollowInTurn, end_after, end_behind, pending_after, pending_with}
 use Rattle.voy_queue.specs.Writer.{closing_size, committed_end, pending, writer_end, writer_role}
+use Rattle.voy_queue.specs.declared.end.End.{End}
 use Rattle.voy_queue.specs.declared.writer.Writer.{Writer}
 use Rattle.voy_schema.specs.declared.table.Table.{Table}
 use Rattle.voy_tables.specs.declared.change.Role.{Role}
@@ -82,3 +86,11 @@ Puts schema old new line put (Stopped refusal) = PutsNone old new line refusal
 abbrev pub StopsAt : Role → FeedError → Step → Type 0
 StopsAt role (feed.Line line why) (Stopped refusal) = stop_told refusal ≡ stop_at (change_file role) line why
 StopsAt role error step = ⊥
+
+-- events were put and committed, this is left of the end, and here the queue ends
+pub record Turned (schema : List Table) (role : Role) (size : ℕ) (end : End) (before after : ChangesEnd) (here : End) (old new : Image → Type 0) : Type 0 where
+  pub puts : List putting.Put
+  pub ends : before ≡ behind_puts puts after
+  pub ends_here : here ≡ end_behind schema size end puts
+  pub may : MayFollowInTurn schema role size end puts
+  pub images : Follows (HasPut schema role size end puts) old new

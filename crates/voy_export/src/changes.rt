@@ -8,14 +8,13 @@ ghost use Rattle.voy_disk.specs.Steps.{Every, Follows, Goes, SomeFirst, StaysTol
 ghost use Rattle.voy_export.specs.Calls.{AtEnd, IsQueueFile, Tells, count_changes};
 ghost use Rattle.voy_export.specs.Ends.{export_end, finished};
 ghost use Rattle.voy_export.specs.Exports.{exports_in};
-ghost use Rattle.voy_export.specs.Put.{HasPut};
+ghost use Rattle.voy_export.specs.Put.{AddsQueueRecords, HasPut};
 ghost use Rattle.voy_export.specs.Recording.{recording_of};
 ghost use Rattle.voy_export.specs.Sound.{SoundExports};
 ghost use Rattle.voy_export.specs.Steps.{MayExport, export_step, last_vsn};
 ghost use Rattle.voy_feed.specs.Feed.{FeedStands, changes_left, last_kept};
 ghost use Rattle.voy_feed.specs.Kept.{change_file, changes_of};
 ghost use Rattle.voy_meta.specs.Allowed.{has_snapshot, writes};
-ghost use Rattle.voy_meta.specs.Growing.{Grows};
 ghost use Rattle.voy_meta.specs.Meta.{MetaStands, meta_state};
 ghost use Rattle.voy_meta.specs.Meta.{is_live as meta_live};
 ghost use Rattle.voy_meta.specs.Sides.{last_of, leads_to, request_of};
@@ -88,7 +87,7 @@ pub fn export_changes<D: Disk>(
     ensures live { AtEnd result (IsTrue (is_live writer.new)) }
     ensures stands { AtEnd result (MetaStands meta.new (D.files export.new)) }
     ensures meta { AtEnd result (IsTrue (meta_live meta.new)) }
-    ensures grows { AtEnd result (Grows (meta_state meta.old) (meta_state meta.new)) }
+    ensures adds { AtEnd result (AddsQueueRecords (meta_state meta.old) (meta_state meta.new)) }
     // whatever it answers
     ensures prefix { IfTold (D.files recording.old) (λ fs. Follows
         (SomeFirst (HasPut schema.now.tables (writer_role writer.old) (closing_size writer.old) (recorded_end (meta_state meta.old) (writer_role writer.old)))

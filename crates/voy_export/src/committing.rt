@@ -1,4 +1,4 @@
-ghost use Rattle.std.specs.Prelude.{◌≡◌, ◌≢◌, List, [], IfErr, IsTrue, OnOk, is_some, true};
+ghost use Rattle.std.specs.Prelude.{◌≡◌, ◌≢◌, List, [], IfErr, IsTrue, OnOk, is_some, false, true};
 ghost use Rattle.voy_disk.specs.Calls.{Change};
 ghost use Rattle.voy_disk.specs.Faults.{HasCause};
 ghost use Rattle.voy_disk.specs.Frames.{KeepsBeside};
@@ -7,12 +7,11 @@ ghost use Rattle.voy_disk.specs.Steps.{Every, Follows, Goes, SomeFirst, StaysTol
 ghost use Rattle.voy_export.specs.Calls.{IsQueueFile, IsUnnamed};
 ghost use Rattle.voy_export.specs.Exports.{exports_in};
 ghost use Rattle.voy_export.specs.Laws.{AreNext};
-ghost use Rattle.voy_export.specs.Put.{HasPut};
+ghost use Rattle.voy_export.specs.Put.{AddsQueueRecords, HasPut};
 ghost use Rattle.voy_export.specs.Recording.{Recording};
 ghost use Rattle.voy_export.specs.Sound.{SoundExports};
 ghost use Rattle.voy_export.specs.Steps.{MayExport, export_step, last_vsn};
 ghost use Rattle.voy_meta.specs.Allowed.{has_snapshot, writes};
-ghost use Rattle.voy_meta.specs.Growing.{Grows};
 ghost use Rattle.voy_meta.specs.Meta.{MetaStands, meta_state};
 ghost use Rattle.voy_meta.specs.Meta.{is_live as meta_live};
 ghost use Rattle.voy_meta.specs.Sides.{leads_to, request_of};
@@ -20,6 +19,7 @@ ghost use Rattle.voy_queue.specs.Putting.{MayFollowInTurn, Put, end_behind, pend
 ghost use Rattle.voy_queue.specs.Writer.{WriterStands, closing_size, committed_end, is_live, pending, writer_end, writer_role};
 ghost use Rattle.voy_schema.specs.Lawful.{is_lawful};
 ghost use Rattle.voy_schema.specs.declared.table.Table.{Table};
+ghost use Rattle.voy_tables.specs.declared.change.Side.{Side};
 
 use crate::error::{ExportError, Which};
 use crate::laws::commits_are_lawful;
@@ -51,7 +51,10 @@ pub(crate) fn commit<D: Disk>(
     ensures stands { OnOk result (MetaStands meta.new (D.files export.new)) }
     ensures live { OnOk result (IsTrue (is_live writer.new)) }
     ensures meta { OnOk result (IsTrue (meta_live meta.new)) }
-    ensures grows { OnOk result (Grows (meta_state meta.old) (meta_state meta.new)) }
+    ensures adds { OnOk result (AddsQueueRecords (meta_state meta.old) (meta_state meta.new)) }
+    ensures snapshot { OnOk result (IsTrue (has_snapshot (meta_state meta.new))) }
+    ensures may { OnOk result ((writer_end writer.old).ended ≡ false → IsTrue (writes (meta_state meta.new) (writer_role writer.old))) }
+    ensures asked { OnOk result ((to : Side) → IsTrue (is_some (request_of to (meta_state meta.old))) → IsTrue (is_some (request_of to (meta_state meta.new)))) }
     // whatever it answers
     ensures some { (schema : List Table) (puts : List Put) → is_lawful schema ≡ true
         → pending writer.old ≡ pending_with schema (closing_size writer.old) (committed_end writer.old) [] puts

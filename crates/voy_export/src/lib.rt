@@ -10,6 +10,9 @@ mod laws;
 mod limits;
 mod names;
 mod plan;
+mod rows;
+mod snapshot;
+mod tables;
 mod turns;
 
 pub use changes::export_changes;
@@ -18,3 +21,4 @@ pub use exported::Exported;
 pub use laws::{commits_are_lawful, exports_are_next, steps_keep_sound};
 pub use limits::MAX_CSV_BYTES;
 pub use names::{csv_file, snapshot_file};
+pub use snapshot::export_snapshot;

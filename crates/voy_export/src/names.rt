@@ -7,6 +7,7 @@ use voy_disk::Name;
 use voy_schema::Table;
 
 /// The recorded file with the rows of a table.
+#[tactic(auto, unfolding(crate::specs::Names::csv_file))]
 pub fn csv_file(alloc: Global, table: &Table) -> Result<Name, AllocError>
     requires { IsTrue (is_lawful_table table.now) }
     ensures { IfOk result (λ name. name ≡ csv_file table.now) }
@@ -20,6 +21,7 @@ pub fn csv_file(alloc: Global, table: &Table) -> Result<Name, AllocError>
 }
 
 /// The exported file with the snapshot of a table.
+#[tactic(auto, unfolding(crate::specs::Names::snapshot_file, crate::specs::Names::csv_file))]
 pub fn snapshot_file(alloc: Global, table: &Table) -> Result<Name, AllocError>
     requires { IsTrue (is_lawful_table table.now) }
     ensures { IfOk result (λ name. name ≡ snapshot_file table.now) }
