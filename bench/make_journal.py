@@ -1,5 +1,6 @@
 #!/usr/bin/env python3
-"""Makes a folder with a schema, and so many changes in a target store's journal and in a segment: make_journal.py FOLDER CHANGES
+"""Makes a folder with a recording of so many rows and changes, and these changes in a target store's journal and in a segment: make_journal.py
+FOLDER CHANGES
 
 Of each ten changes six are inserts of new rows, three are updates of rows that stand, and one is a delete, over
 keys in no order. A transaction has 500 changes of channel 1."""
@@ -87,3 +88,10 @@ with open(os.path.join(folder, "target", "store.journal"), "wb") as journal:
     journal.write(b"\x00")
 with open(os.path.join(folder, "export", "segment.0.ndjson"), "wb") as segment:
     segment.write(b"".join(line + b"\n" for line in made))
+with open(os.path.join(folder, "recording", "public.users.csv"), "w") as rows:
+    rows.write("id,email\n" + "".join(f"{scattered(n)},r{n}@example.com\n" for n in range(1, changes + 1)))
+with open(os.path.join(folder, "recording", "changes.ndjson"), "w") as recorded:
+    for vsn, line in enumerate(made, 1):
+        change = json.loads(line)
+        names = ("op", "schema_name", "table_name", "key", "fields", "before_fields")
+        recorded.write(json.dumps({"commit": vsn, "seq": 1} | {name: change[name] for name in names}, separators=(",", ":")) + "\n")

@@ -1,4 +1,4 @@
-//! The worked cases of a move's metadata and queue, as data.
+//! The worked cases of a move's metadata, queue and exports, as data.
 //!
 //! The standard input has paragraphs with a blank line between; the format is described at its top, and each
 //! case is written from what is specified. The output has what each case came to, in the same order; the gate compares
@@ -6,6 +6,8 @@
 #![tactic(auto)]
 
 mod allowed;
+mod export_files;
+mod exports;
 mod files;
 mod payloads;
 mod queue;
@@ -35,6 +37,7 @@ fn came_to(alloc: Global, case: &Case) -> Result<String, Trouble> {
         "metadata" => files::metadata(alloc, case),
         "allowed" => allowed::allowed(alloc, case),
         "state" => allowed::state(alloc, case),
+        "export" => exports::export(alloc, case),
         "queue" => queue::queue(alloc, case),
         "writer" => queue_writer::writer(alloc, case),
         _ => Err(Trouble::Case("no such kind")),

@@ -58,7 +58,7 @@ fn sizes_on(alloc: Global, count: usize, disk: &SureDisk) -> Result<String, Trou
 }
 
 /// The metadata with these records.
-fn opened<D: Disk>(alloc: Global, disk: &mut D, records: &str) -> Result<Meta, Trouble>
+pub fn opened<D: Disk>(alloc: Global, disk: &mut D, records: &str) -> Result<Meta, Trouble>
     ensures live { IfOk result (λ meta. IsTrue (meta_live meta)) }
     ensures stands { IfOk result (λ meta. MetaStands meta (D.files disk.new)) }
 {

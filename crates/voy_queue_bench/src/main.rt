@@ -1,10 +1,13 @@
-//! What the reader of the queue takes, beside a parser of the same lines. `bench/queue.py` runs it.
+//! What the queue and exports take, beside a parser of the same lines. `bench/queue.py` and `bench/export.py` run it.
 //!
-//! The standard input is a word, a schema on one line, and event lines. By the word `queue` they are read as the events of a committed
-//! segment, by `json` each is parsed as a JSON document, and by `lines` they are gone through alone. The output is how many there are. By the word
-//! `calls` a writer puts them and commits them together, and the output is how many calls of its disk the commit made.
+//! The standard input is a word, a schema on one line, and lines. By the word `queue` they are read as the events of a committed
+//! segment, by `json` each is parsed as a JSON document, by `copy` it is written again too, and by `lines` they are gone through alone. The output
+//! is how many there are. By the word `calls` a writer puts them and commits them together, and the output is how many calls of its disk the
+//! commit made. By the word `export` they are a recording (the CSV file of the one table, an empty line, and the changes), which is exported; the
+//! output is how many rows and changes it has.
 #![tactic(auto)]
 
+mod exporting;
 mod writing;
 
 use serde_json::Value as Json;
@@ -32,10 +35,15 @@ fn counted(alloc: Global, word: &str, schema: &str, lines: &str) -> Result<Strin
     let count = match word {
         "queue" => events_of(alloc, &schema_of(alloc, schema)?, lines)?,
         "json" => documents_in(alloc, lines)?,
+        "copy" => copied(alloc, lines)?,
         "lines" => lines.lines().count(),
         "calls" => {
             let calls = writing::calls_for(alloc, &schema_of(alloc, schema)?, lines)?;
             return Ok(format!(in alloc; "{calls}")?);
+        }
+        "export" => {
+            let count = exporting::exported_of(alloc, &schema_of(alloc, schema)?, lines)?;
+            return Ok(format!(in alloc; "{count}")?);
         }
         _ => return Err(Trouble::Case("no such word")),
     };
@@ -91,6 +99,21 @@ fn documents_in(alloc: Global, lines: &str) -> Result<usize, Trouble> {
         if Json::from_slice(alloc, line.as_bytes()).is_err() {
             return Err(Trouble::Apart("a line that is no document"));
         }
+        count = count.saturating_add(1);
+    }
+    Ok(count)
+}
+
+/// Copies each line as a JSON document, and answers how many there are.
+fn copied(alloc: Global, lines: &str) -> Result<usize, Trouble> {
+    let mut count: usize = 0;
+    let mut written = Vec::new(alloc);
+    for line in lines.lines() {
+        let Ok(document) = Json::from_slice(alloc, line.as_bytes()) else {
+            return Err(Trouble::Apart("a line that is no document"));
+        };
+        written.extend_from_slice(document.to_vec(alloc)?.as_slice())?;
+        written.extend_from_slice(b"\n")?;
         count = count.saturating_add(1);
     }
     Ok(count)
