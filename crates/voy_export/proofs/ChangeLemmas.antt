@@ -17,7 +17,7 @@ use Rattle.voy_export.proofs.TurnLemmas.{vsn_behind}
 use Rattle.voy_feed.specs.Kept.{ChangeReading, kept_reading}
 use Rattle.voy_tables.specs.declared.change.Spot.{Spot}
 use Rattle.std.proofs.lemmas.Bool.{and_parts}
-use Rattle.voy_export.proofs.CommitLemmas.{recorded_ended}
+use Rattle.voy_export.proofs.CommitLemmas.{recorded_ended, recorded_vsn}
 use Rattle.voy_meta.specs.Allowed.{has_fall_back, writes}
 use Rattle.voy_meta.specs.Sides.{is_ended}
 use Rattle.voy_tables.specs.declared.change.Role.TheVariants as role
@@ -112,3 +112,13 @@ start_ended r state end is may = ap (λ (e : End). e.ended) is ∙ recorded_ende
 pub between_ends : (a b from to : End) (changes : ℕ) → a ≡ from → b ≡ to → changes ≡ b.last_vsn - a.last_vsn - (if b.ended then 1 else 0)
     → changes ≡ to.last_vsn - from.last_vsn - (if to.ended then 1 else 0)
 between_ends a b from to changes from_is to_is is = is ∙ rw (from_is, to_is) refl
+
+-- the changes between two recorded ends
+pub recorded_changes : (old new : MetaState) (r : Role) (from to : End) (changes : ℕ) → from ≡ recorded_end old r → to ≡ recorded_end new r
+    → changes ≡ to.last_vsn - from.last_vsn - (if to.ended then 1 else 0)
+    → changes ≡ last_vsn new - last_vsn old - (if is_ended r new then 1 else 0)
+recorded_changes old new r from to changes from_is to_is is =
+    is
+    ∙ ap (λ (n : ℕ). n - from.last_vsn - (if to.ended then 1 else 0)) (ap (λ (e : End). e.last_vsn) to_is ∙ recorded_vsn new r)
+    ∙ ap (λ (n : ℕ). last_vsn new - n - (if to.ended then 1 else 0)) (ap (λ (e : End). e.last_vsn) from_is ∙ recorded_vsn old r)
+    ∙ ap (λ (b : Bool). last_vsn new - last_vsn old - (if b then 1 else 0)) (ap (λ (e : End). e.ended) to_is ∙ recorded_ended new r)

@@ -191,7 +191,7 @@ module _ (recording : Recording) (role : Role) (size : ℕ) (state : MetaState) 
         sym (steps_are_commits (exports_in recording.schema i) (map (commit_of role) xs)
         ∙ ap (λ (s : Shelf). record { shelf = s; snapshots = (exports_in recording.schema i).snapshots })
         (ap (λ (s : Shelf). after_all shelf_after s (map (commit_of role) xs)) same ∙ sym made)
-        ∙ ap (λ (snapshots : List (List ℕ)). record { shelf = shelf_in j; snapshots = snapshots })
+        ∙ ap (λ (snapshots : List (Option (List ℕ))). record { shelf = shelf_in j; snapshots = snapshots })
         (sym (same_snapshots recording.schema role state old reads xs before j was made)))
 
     by : (j : Image) → ImagesOf new j → From (SomeFirst (Does shelf_in shelf_after) (map (commit_of role) pending)) (ImagesOf old) j

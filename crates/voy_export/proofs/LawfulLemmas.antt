@@ -228,6 +228,7 @@ module _ (written : WrittenReadsBack) (first : FirstPartIsPut) (ends : EndsWithP
             ∙ ap (shelf_reading recording.schema) (sym (after_on who (shelf_in image) front one))
             ∙ read_here (front ++ one ∷ []) behind.some more_is
             ∙ ap (λ n. reads_whole (events_of (first_puts recording n))) (sym vsn_is);
+        rises = (let from = ap last_vsn state_here ∙ last_front in let to = vsn_is in let more = strict in omega (arith, from, to, more));
         exporter =
             ap (λ puts. list_all (λ (put : Put). is_role put.event.role who) puts) between_is
             ∙ by_behind who fewer some (are_by recording.schema size who some end may_some);

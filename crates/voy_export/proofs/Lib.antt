@@ -17,3 +17,4 @@ mod SnapshotWrites
 mod SnapshotTurns
 mod SnapshotLoop
 pub mod ChangeLemmas
+mod SnapshotAdds

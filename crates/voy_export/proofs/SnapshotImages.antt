@@ -2,7 +2,6 @@
 use Rattle.std.proofs.Common.{◌≡◌, ◌≢◌, ◌<◌, ℕ, suc, true, List, [], ◌∷◌, ◌++◌, Some, length, take, refl, sym, ap, ◌∙◌, arith}
 use Rattle.std.specs.Prelude.{slice_get}
 use Rattle.std.specs.Option.{option_map}
-use Rattle.std.proofs.Math.Seq.{take-length}
 use Rattle.std.proofs.lemmas.List.{append-nil}
 use Rattle.voy_disk.specs.Images.{Image, SameBut, bytes_in}
 use Rattle.voy_export.specs.Exports.{contents, exports_in, snapshots_in}
@@ -58,8 +57,8 @@ contents_beside : (i j : Image) (name : List ℕ) (tables : List Table) (snaps :
 contents_beside i j name [] snaps others apart = refl
 contents_beside i j name (table ∷ tables) [] others apart = refl
 contents_beside i j name (table ∷ tables) (one ∷ snaps) others apart =
-    ap (λ bytes. take one.bytes (bytes_in bytes) ∷ contents j tables snaps) (others (snapshot_file table) (apart 0 table (omega arith) refl))
-    ∙ ap (λ rest. take one.bytes (bytes_in (i (snapshot_file table))) ∷ rest)
+    ap (λ file. file ∷ contents j tables snaps) (others (snapshot_file table) (apart 0 table (omega arith) refl))
+    ∙ ap (λ rest. i (snapshot_file table) ∷ rest)
     (contents_beside i j name tables snaps others (λ at t below found. apart (suc at) t (omega (arith, below)) found))
 
 records_beside : (name : List ℕ) (i j : Image) → name ≢ meta_name → SameBut name i j → records_in j ≡ records_in i
@@ -104,22 +103,20 @@ exports_same schema state j k reads adds =
 -- ---- a snapshot more
 
 contents_added : (image : Image) (tables : List Table) (snaps : List SnapshotState) (table : Table) (one : SnapshotState) (text : List ℕ)
-    → slice_get tables (length snaps) ≡ Some table → bytes_in (image (snapshot_file table)) ≡ text → one.bytes ≡ length text
-    → contents image tables (snaps ++ one ∷ []) ≡ contents image tables snaps ++ text ∷ []
-contents_added image [] snaps table one text found has size = cc
-contents_added image (t ∷ tables) [] table one text found has size =
+    → slice_get tables (length snaps) ≡ Some table → image (snapshot_file table) ≡ Some text
+    → contents image tables (snaps ++ one ∷ []) ≡ contents image tables snaps ++ Some text ∷ []
+contents_added image [] snaps table one text found has = cc
+contents_added image (t ∷ tables) [] table one text found has =
     let same : t ≡ table = cc in
-    ap (λ n. take n (bytes_in (image (snapshot_file t))) ∷ contents image tables []) size
-    ∙ ap (λ (t : Table). take (length text) (bytes_in (image (snapshot_file t))) ∷ contents image tables []) same
-    ∙ ap (λ bytes. take (length text) bytes ∷ contents image tables []) has
-    ∙ ap (λ bytes. bytes ∷ contents image tables []) (take-length text)
-    ∙ ap (λ rest. text ∷ rest) (nothing tables)
+    ap (λ (t : Table). image (snapshot_file t) ∷ contents image tables []) same
+    ∙ ap (λ file. file ∷ contents image tables []) has
+    ∙ ap (λ rest. Some text ∷ rest) (nothing tables)
   where
     nothing : (tables : List Table) → contents image tables [] ≡ []
     nothing [] = refl
     nothing (t ∷ tables) = refl
-contents_added image (t ∷ tables) (s ∷ snaps) table one text found has size =
-    ap (λ rest. take s.bytes (bytes_in (image (snapshot_file t))) ∷ rest) (contents_added image tables snaps table one text found has size)
+contents_added image (t ∷ tables) (s ∷ snaps) table one text found has =
+    ap (λ rest. image (snapshot_file t) ∷ rest) (contents_added image tables snaps table one text found has)
 
 snapshots_more : (state : MetaState) (number of bytes rows : ℕ) → (after_record state (Snapshot number of bytes rows)).snapshots ≡ state.snapshots ++ record { bytes = bytes; rows = rows } ∷ []
 unfolding after_record
@@ -130,7 +127,7 @@ unfolding after_record
 segments_stay state number of bytes rows = refl
 
 pub exports_added : (schema : List Table) (state : MetaState) (number : ℕ) (table : Table) (of rows : ℕ) (text : List ℕ) (j k : Image)
-    → length state.snapshots ≡ number → slice_get schema number ≡ Some table → bytes_in (j (snapshot_file table)) ≡ text → ReadsAs state j
+    → length state.snapshots ≡ number → slice_get schema number ≡ Some table → j (snapshot_file table) ≡ Some text → ReadsAs state j
     → AddsRecords (Snapshot number of (length text) rows ∷ []) j k
     → exports_in schema k ≡ export_step (exports_in schema j) (AddsSnapshot (Snapshot number of (length text) rows) text)
 exports_added schema state number table of rows text j k next found has reads adds =
@@ -148,5 +145,5 @@ exports_added schema state number table of rows text j k next found has reads ad
     (ap (committed k 0) segments ∙ committed_beside j k meta_name 0 old.segments adds.others segment_is_no_meta)
     ∙ ap (λ bytes. record { shelf = record { records = Some (reads.entries ++ entry ∷ []); segments = committed j 0 old.segments }; snapshots = bytes })
     (ap (contents k schema) snapshots ∙ contents_beside j k meta_name schema (old.snapshots ++ one ∷ []) adds.others (λ at t below found. snapshot_is_no_meta t)
-    ∙ contents_added j schema old.snapshots table one text (ap (slice_get schema) count ∙ found) has refl)
+    ∙ contents_added j schema old.snapshots table one text (ap (slice_get schema) count ∙ found) has)
     ∙ sym (ap (λ exports. export_step exports (AddsSnapshot entry text)) (exports_is schema j reads.entries reads.read))

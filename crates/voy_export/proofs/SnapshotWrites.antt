@@ -12,7 +12,7 @@ use Rattle.voy_disk.specs.FrameLaws.{files_beside_again, files_beside_more, file
 use Rattle.voy_disk.specs.Frames.{KeepsBeside, KeepsOtherFiles, OneName, OneOf}
 use Rattle.voy_disk.specs.Fronts.{KeepsFront}
 use Rattle.voy_disk.specs.ImageLaws.{image_there}
-use Rattle.voy_disk.specs.Images.{Image, ImagesOf, SameBut, bytes_in}
+use Rattle.voy_disk.specs.Images.{Image, ImagesOf, SameBut}
 use Rattle.voy_disk.specs.ReachLaws.{reaches_nothing, reaches_one}
 use Rattle.voy_disk.specs.StepLaws.{follows_weaker, some_of_one}
 use Rattle.voy_disk.specs.Steps.{Does, Every, Follows, Goes, LeavesPrefix, Reaches}
@@ -82,13 +82,13 @@ may_record schema state number rows lawful within version next tables few =
 -- ---- the images
 
 -- a file that was made anew has its text in each image
-text_in_each : (files : Option Files) (name text : List ℕ) → IfTold files (IsSafeBehind name 0 text) → Every (ImagesOf files) (λ image. bytes_in (image name) ≡ text)
+text_in_each : (files : Option Files) (name text : List ℕ) → IfTold files (IsSafeBehind name 0 text) → Every (ImagesOf files) (λ image. image name ≡ Some text)
 text_in_each None name text safe = record { each = λ image is. absurd is }
 text_in_each (Some fs) name text safe = let at = safe fs refl in record {
   each = λ image is.
       let there = image_there (fs name) (image name) (settled (at.front ++ text)) at.is (is name) in
       let bare : at.front ≡ [] = nil_from_length at.front at.size in
-      ap (λ found. bytes_in found) there.is ∙ one_image (at.front ++ text) there.bytes there.of_file ∙ ap (λ front. front ++ text) bare;
+      there.is ∙ ap Some (one_image (at.front ++ text) there.bytes there.of_file ∙ ap (λ front. front ++ text) bare);
 }
 
 module _ {I R K : Type 0} (reads : I → R) (step : R → K → R) (may : R → K → Type 0) where
@@ -175,7 +175,7 @@ module _ (schema : List Table) (lawful : is_lawful schema ≡ true) (meta : Meta
     added i j k reads is same adds =
         let reads_j = (state_in_each meta b (meta_stays others)).each j is in
         let has = (text_in_each b name text safe).each j is in
-        exports_added schema (meta_state meta) number table (length schema) (length rows) (row_lines rows) j k next found (ap (λ name. bytes_in (j name)) (sym name_is) ∙ has ∙ text_is) reads_j
+        exports_added schema (meta_state meta) number table (length schema) (length rows) (row_lines rows) j k next found (ap j (sym name_is) ∙ has ∙ ap Some text_is) reads_j
         (subst (λ e. AddsRecords (e ∷ []) j k) put_is adds)
         ∙ ap (λ exports. export_step exports step) (kept i j reads same)
 

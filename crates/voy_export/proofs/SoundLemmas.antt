@@ -63,9 +63,9 @@ module _ (state_more : OneMoreState) (test_more : OneMoreTest) (recording : Reco
       }
 
 -- what one more table adds
-module _ (recording : Recording) (state : MetaState) (contents : List (List ℕ)) (old : AreSnapshots recording state contents) (rows : List (List Value)) where
+module _ (recording : Recording) (state : MetaState) (contents : List (Option (List ℕ))) (old : AreSnapshots recording state contents) (rows : List (List Value)) where
   snapshots_more : slice_get recording.rows (length state.snapshots) ≡ Some (Some rows)
-      → AreSnapshots recording (after_record state (Snapshot (length state.snapshots) (length recording.schema) (length (row_lines rows)) (length rows))) (contents ++ row_lines rows ∷ [])
+      → AreSnapshots recording (after_record state (Snapshot (length state.snapshots) (length recording.schema) (length (row_lines rows)) (length rows))) (contents ++ Some (row_lines rows) ∷ [])
   unfolding after_record
   snapshots_more has =
       let size : length (state.snapshots ++ snapshot_of rows ∷ []) ≡ length state.snapshots + 1 = length_push state.snapshots (snapshot_of rows) in
@@ -79,7 +79,7 @@ module _ (recording : Recording) (state : MetaState) (contents : List (List ℕ)
             ∙ ap (λ row. take (length state.snapshots) recording.rows ++ row ∷ []) next
             ∙ ap (λ front. front ++ Some rows ∷ []) old.recorded
             ∙ sym (map_push Some old.rows rows);
-        texts = ap (λ front. front ++ row_lines rows ∷ []) old.texts ∙ sym (map_push row_lines old.rows rows);
+        texts = ap (λ front. front ++ Some (row_lines rows) ∷ []) old.texts ∙ sym (map_push (λ (table : List (List Value)). Some (row_lines table)) old.rows rows);
         sizes = ap (λ front. front ++ snapshot_of rows ∷ []) old.sizes ∙ sym (map_push snapshot_of old.rows rows);
         tables = λ some. refl;
       }
@@ -202,7 +202,7 @@ one_of P role.Source same others role.Target = others role.Target refl
 one_of P role.Target same others role.Source = others role.Source refl
 one_of P role.Target same others role.Target = same
 
-module _ (recording : Recording) (state : MetaState) (contents : List (List ℕ)) (number bytes vsn : ℕ) (who : Role) (spot : Option Spot) (closed ended : Bool) where
+module _ (recording : Recording) (state : MetaState) (contents : List (Option (List ℕ))) (number bytes vsn : ℕ) (who : Role) (spot : Option Spot) (closed ended : Bool) where
   snapshots_same : AreSnapshots recording state contents → AreSnapshots recording (after_record state (Queue number bytes vsn who spot closed ended)) contents
   unfolding after_record
   snapshots_same are = record { rows = are.rows; recorded = are.recorded; texts = are.texts; sizes = are.sizes; tables = are.tables }

@@ -1,6 +1,6 @@
 -- What an export disk holds of an export, as it reads: the records, the snapshot of each recorded table, and the queue.
-use Rattle.std.specs.Prelude.{ℕ, List, [], ◌∷◌, ◌++◌, Option, Some, None, take}
-use Rattle.voy_disk.specs.Images.{Image, bytes_in}
+use Rattle.std.specs.Prelude.{ℕ, List, [], ◌∷◌, ◌++◌, Option, Some, None}
+use Rattle.voy_disk.specs.Images.{Image}
 use Rattle.voy_export.specs.Names.{snapshot_file}
 use Rattle.voy_meta.specs.State.{state_of}
 use Rattle.voy_meta.specs.declared.record.MetaRecord.{MetaRecord}
@@ -12,16 +12,17 @@ use Rattle.voy_schema.specs.declared.table.Table.{Table}
 pub record Exports : Type 0 where
   -- the records, and the committed bytes of each recorded segment
   pub shelf : Shelf
-  -- the recorded bytes of the snapshot file of each recorded table
-  pub snapshots : List (List ℕ)
+  -- the snapshot file of each recorded table, where it is there
+  pub snapshots : List (Option (List ℕ))
 
--- the recorded bytes of the snapshot files of these tables, as far as they are recorded
-abbrev pub contents : Image → List Table → List SnapshotState → List (List ℕ)
+-- the snapshot files of these tables, as far as they are recorded
+abbrev pub contents : Image → List Table → List SnapshotState → List (Option (List ℕ))
 contents image [] recorded = []
 contents image (table ∷ tables) [] = []
-contents image (table ∷ tables) (one ∷ more) = take one.bytes (bytes_in (image (snapshot_file table))) ∷ contents image tables more
+contents image (table ∷ tables) (one ∷ more) = image (snapshot_file table) ∷ contents image tables more
 
-abbrev pub snapshots_in : List Table → Image → Option (List MetaRecord) → List (List ℕ)
+-- where the metadata do not read there are none
+abbrev pub snapshots_in : List Table → Image → Option (List MetaRecord) → List (Option (List ℕ))
 snapshots_in schema image None = []
 snapshots_in schema image (Some entries) = contents image schema (state_of entries).snapshots
 

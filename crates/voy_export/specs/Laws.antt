@@ -1,7 +1,8 @@
 -- The laws of exports that callers go by, each of which a public function proves.
 use Rattle.std.specs.Prelude.{◌≡◌, ℕ, Bool, true, List, [], Option, drop, length, map, take}
-use Rattle.voy_disk.specs.Images.{Image}
-use Rattle.voy_disk.specs.Steps.{Lawful}
+use Rattle.voy_disk.specs.Files.{Files}
+use Rattle.voy_disk.specs.Images.{Image, ImagesOf}
+use Rattle.voy_disk.specs.Steps.{Every, Goes, Lawful}
 use Rattle.voy_export.specs.Ends.{export_end}
 use Rattle.voy_export.specs.Exports.{Exports, exports_in}
 use Rattle.voy_export.specs.Recording.{Recording, recording_of, whole_queue}
@@ -19,6 +20,14 @@ abbrev pub StepsKeepSound : Type 0
 StepsKeepSound =
     (recording : Recording) (exports : Exports) (step : ExportStep)
     → SoundExports recording exports → MayExport recording exports step → SoundExports recording (export_step exports step)
+
+-- so where each image is sound, and lawful steps lead from them, each image after is
+abbrev pub MovesKeepSound : Type 0
+MovesKeepSound =
+    (recording : Recording) (old new : Option Files)
+    → Every (ImagesOf old) (λ image. SoundExports recording (exports_in recording.schema image))
+    → Goes (exports_in recording.schema) export_step (MayExport recording) (ImagesOf old) (ImagesOf new)
+    → Every (ImagesOf new) (λ image. SoundExports recording (exports_in recording.schema image))
 
 -- these are the next events of the whole queue behind the first so many
 abbrev pub AreNext : Recording → ℕ → List Put → Type 0

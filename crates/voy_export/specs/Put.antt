@@ -1,4 +1,4 @@
--- What an export of changes leaves on the export disk.
+-- What an export leaves on the export disk.
 use Rattle.std.specs.Prelude.{◌≡◌, ℕ, true, List, [], ◌∷◌, ◌++◌}
 use Rattle.std.specs.Option.{option_map}
 use Rattle.voy_disk.specs.Images.{Image}
@@ -6,7 +6,7 @@ use Rattle.voy_export.specs.Exports.{exports_in}
 use Rattle.voy_meta.specs.Allowed.{allowed_after}
 use Rattle.voy_meta.specs.State.{state_after}
 use Rattle.voy_meta.specs.declared.record.MetaRecord.{MetaRecord}
-use Rattle.voy_meta.specs.declared.record.MetaRecord.TheVariants.{Queue}
+use Rattle.voy_meta.specs.declared.record.MetaRecord.TheVariants.{Queue, Snapshot}
 use Rattle.voy_meta.specs.declared.state.MetaState.{MetaState}
 use Rattle.voy_queue.specs.Putting.{Put, shelf_with}
 use Rattle.voy_queue.specs.Shelf.{StandsAs, shelf_in}
@@ -35,5 +35,20 @@ pub record HasPut (schema : List Table) (role : Role) (size : ℕ) (end : End) (
 pub record AddsQueueRecords (old new : MetaState) : Type 0 where
   pub more : List MetaRecord
   pub queue : AreQueueRecords more
+  pub allowed : allowed_after old more ≡ true
+  pub state : new ≡ state_after old more
+
+abbrev pub IsSnapshotRecord : MetaRecord → Type 0
+IsSnapshotRecord (Snapshot table of bytes rows) = Unit {0}
+IsSnapshotRecord entry = ⊥
+
+abbrev pub AreSnapshotRecords : List MetaRecord → Type 0
+AreSnapshotRecords [] = Unit {0}
+AreSnapshotRecords (entry ∷ entries) = IsSnapshotRecord entry × AreSnapshotRecords entries
+
+-- a state has Snapshot records more, each allowed behind those in front of it
+pub record AddsSnapshotRecords (old new : MetaState) : Type 0 where
+  pub more : List MetaRecord
+  pub snapshot : AreSnapshotRecords more
   pub allowed : allowed_after old more ≡ true
   pub state : new ≡ state_after old more

@@ -52,12 +52,7 @@ cutover_of role.Target = CutoverSource
 abbrev pub cutover_put : Role → (vsn : ℕ) → Put
 cutover_put role vsn = record { event = record { vsn = vsn; role = role; what = cutover_of role }; spot = None }
 
--- the events of these changes, numbered behind this vsn
-abbrev pub change_puts : Role → (vsn : ℕ) → List Recorded → List Put
-change_puts role vsn [] = []
-change_puts role vsn (recorded ∷ more) = change_put role (suc vsn) recorded ∷ change_puts role (suc vsn) more
-
--- the same, and behind them the cutover
+-- the events of these changes, numbered behind this vsn, and behind them the cutover
 abbrev pub part_puts : Role → (vsn : ℕ) → List Recorded → List Put
 part_puts role vsn [] = cutover_put role (suc vsn) ∷ []
 part_puts role vsn (recorded ∷ more) = change_put role (suc vsn) recorded ∷ part_puts role (suc vsn) more

@@ -1,5 +1,5 @@
 -- When what an export disk holds is sound for a recording.
-use Rattle.std.specs.Prelude.{◌≡◌, ◌≢◌, ℕ, true, List, [], ◌∷◌, Some, length, map, take}
+use Rattle.std.specs.Prelude.{◌≡◌, ◌≢◌, ℕ, true, List, [], ◌∷◌, Option, Some, length, map, take}
 use Rattle.voy_export.specs.Exports.{Exports}
 use Rattle.voy_export.specs.Recording.{Recording}
 use Rattle.voy_export.specs.Steps.{first_puts, has_cutover, last_vsn, place_at}
@@ -22,10 +22,10 @@ abbrev pub snapshot_of : List (List Value) → SnapshotState
 snapshot_of rows = record { bytes = length (row_lines rows); rows = length rows }
 
 -- the recorded tables have the rows of the recording: each snapshot file their text, and its record their sizes
-pub record AreSnapshots (recording : Recording) (state : MetaState) (contents : List (List ℕ)) : Type 0 where
+pub record AreSnapshots (recording : Recording) (state : MetaState) (contents : List (Option (List ℕ))) : Type 0 where
   pub rows : List (List (List Value))
   pub recorded : take (length state.snapshots) recording.rows ≡ map Some rows
-  pub texts : contents ≡ map row_lines rows
+  pub texts : contents ≡ map (λ (table : List (List Value)). Some (row_lines table)) rows
   pub sizes : state.snapshots ≡ map snapshot_of rows
   pub tables : state.snapshots ≢ [] → state.tables ≡ length recording.schema
 

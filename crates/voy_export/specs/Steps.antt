@@ -1,5 +1,5 @@
 -- What an export does to an export disk, step by step, and the condition of each step.
-use Rattle.std.specs.Prelude.{◌≡◌, ℕ, ◌&&◌, if◌then◌else◌, Bool, true, List, [], ◌∷◌, ◌++◌, Option, Some, None, drop, length, slice_get, take}
+use Rattle.std.specs.Prelude.{◌≡◌, ◌<◌, ℕ, ◌&&◌, if◌then◌else◌, Bool, true, List, [], ◌∷◌, ◌++◌, Option, Some, None, drop, length, slice_get, take}
 use Rattle.std.specs.List.{list_all, list_any}
 use Rattle.voy_event.specs.Events.{ends_part}
 use Rattle.voy_export.specs.Exports.{Exports, with_entry}
@@ -26,7 +26,7 @@ pub data ExportStep : Type 0 where
 
 abbrev pub export_step : Exports → ExportStep → Exports
 export_step exports (AddsSnapshot entry content) =
-    record { shelf = with_entry exports.shelf entry; snapshots = exports.snapshots ++ content ∷ [] }
+    record { shelf = with_entry exports.shelf entry; snapshots = exports.snapshots ++ Some content ∷ [] }
 export_step exports (AddsEvents commits) = record { shelf = shelf_after exports.shelf commits; snapshots = exports.snapshots }
 
 -- the last vsn that is recorded
@@ -64,7 +64,7 @@ pub record MaySnapshot (recording : Recording) (exports : Exports) (entry : Meta
   pub content_is : content ≡ row_lines rows
   pub entry_is : entry ≡ Snapshot (length (state_of entries).snapshots) (length recording.schema) (length content) (length rows)
 
--- the next events of the whole queue, which are of one exporter, are recorded with the place of its last change, and as its end just where
+-- at least one event more, the next ones of the whole queue, which are of one exporter, are recorded with the place of its last change, and as its end just where
 -- its cutover is among them; their bytes, behind those that are committed, read as them
 pub record MayCommit (recording : Recording) (exports : Exports) (commits : Commits) : Type 0 where
   pub entries : List MetaRecord
@@ -77,6 +77,7 @@ pub record MayCommit (recording : Recording) (exports : Exports) (commits : Comm
   pub ended : Bool
   pub entry_is : commits.entry ≡ Queue commits.number bytes vsn role (place_at recording role vsn) closed ended
   pub reads : shelf_reading recording.schema (shelf_after exports.shelf commits) ≡ reads_whole (events_of (first_puts recording vsn))
+  pub rises : last_vsn (state_of entries) < vsn
   pub exporter : list_all (λ (put : Put). is_role put.event.role role) (puts_between recording (last_vsn (state_of entries)) vsn) ≡ true
   pub end : ended ≡ has_cutover role (puts_between recording (last_vsn (state_of entries)) vsn)
 

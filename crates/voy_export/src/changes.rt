@@ -1,4 +1,4 @@
-ghost use Rattle.std.specs.Prelude.{◌≡◌, ◌≢◌, ◌≤◌, ◌+◌, ◌-◌, List, [], Some, None, IfErr, IfOk, IsTrue, OnOk, is_some, length, take, true, false};
+ghost use Rattle.std.specs.Prelude.{if◌then◌else◌, ◌≡◌, ◌≢◌, ◌≤◌, ◌+◌, ◌-◌, List, [], Some, None, IfErr, IfOk, IsTrue, OnOk, is_some, length, take, true, false};
 ghost use Rattle.voy_disk.specs.Calls.{Change};
 ghost use Rattle.voy_disk.specs.Faults.{HasCause};
 ghost use Rattle.voy_disk.specs.Files.{IfTold};
@@ -17,7 +17,7 @@ ghost use Rattle.voy_feed.specs.Kept.{change_file, changes_of};
 ghost use Rattle.voy_meta.specs.Allowed.{has_snapshot, writes};
 ghost use Rattle.voy_meta.specs.Meta.{MetaStands, meta_state};
 ghost use Rattle.voy_meta.specs.Meta.{is_live as meta_live};
-ghost use Rattle.voy_meta.specs.Sides.{last_of, leads_to, request_of};
+ghost use Rattle.voy_meta.specs.Sides.{is_ended, last_of, leads_to, request_of};
 ghost use Rattle.voy_queue.specs.Putting.{end_behind, recorded_end};
 ghost use Rattle.voy_queue.specs.Writer.{WriterStands, closing_size, committed_end, is_live, pending, writer_role};
 
@@ -71,6 +71,8 @@ pub fn export_changes<D: Disk>(
         (export_end schema.now.tables (closing_size writer.old) (now_image fs) (writer_role writer.old) (meta_state meta.old) max end).stop ≡ finished)) }
     ensures changes { IfOk result (λ exported. IfTold (D.files recording.old) (λ fs. exported.changes ≡ count_changes
         (export_end schema.now.tables (closing_size writer.old) (now_image fs) (writer_role writer.old) (meta_state meta.old) max end).puts)) }
+    ensures counts { IfOk result (λ exported. exported.changes ≡ last_vsn (meta_state meta.new) - last_vsn (meta_state meta.old)
+        - (if is_ended (writer_role writer.old) (meta_state meta.new) then 1 else 0)) }
     ensures last_vsn { IfOk result (λ exported. exported.last_vsn ≡ last_vsn (meta_state meta.new)) }
     ensures told { IfErr result (λ error. IfTold (D.files recording.old) (λ fs. Tells
         (export_end schema.now.tables (closing_size writer.old) (now_image fs) (writer_role writer.old) (meta_state meta.old) max end).stop error)) }

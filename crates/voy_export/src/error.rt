@@ -26,12 +26,13 @@ pub enum Why {
 pub enum ExportError {
     /// A recorded file is absent, or a line of it has no reading. What stands in front of it is exported.
     Refused { file: Name, line: u64, why: Why },
-    /// A recorded file passes its limit (then the line is 0), or a line or a row of it does; or no vsn or segment is left for the event
-    /// of this line, 0 for a cutover. What stands in front of it is exported.
+    /// The recorded CSV files up to this one pass their limit together (then the line is 0), a line or a row of the file does, or no vsn or
+    /// segment is left for the event of this line, 0 for a cutover. What stands in front of it is exported.
     Limit { file: Name, line: u64 },
     /// A disk failed. Its count of faults rose.
     Fault(Which),
-    /// Memory was refused.
+    /// Memory was refused; or the text of a table's rows has more bytes than a record may say, or the line of an event more than its limit,
+    /// which a recorded file and a recorded line within their limits are not known to come to.
     NoMemory,
 }
 

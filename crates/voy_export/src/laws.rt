@@ -1,4 +1,4 @@
-ghost use Rattle.voy_export.specs.Laws.{CommitsAreLawful, ExportsAreNext, StepsKeepSound};
+ghost use Rattle.voy_export.specs.Laws.{CommitsAreLawful, ExportsAreNext, MovesKeepSound, StepsKeepSound};
 
 use voy_feed::kept_go_on;
 use voy_meta::{records_join, records_say};
@@ -11,6 +11,13 @@ pub fn steps_keep_sound()
     // The laws of records; there is nothing to run.
     records_join();
     records_say();
+}
+
+/// Law: where each image of an export disk is sound, and steps that may be done lead from them, each image after is sound.
+pub fn moves_keep_sound()
+    ensures { MovesKeepSound }
+{
+    steps_keep_sound();
 }
 
 /// Law: what an export adds to a sound disk are the next events of the whole queue.

@@ -4,13 +4,13 @@ ghost use Rattle.voy_disk.specs.Faults.{HasCause};
 ghost use Rattle.voy_disk.specs.Files.{IfTold};
 ghost use Rattle.voy_disk.specs.Frames.{KeepsBeside, OneOf};
 ghost use Rattle.voy_disk.specs.Images.{ImagesOf, now_image};
-ghost use Rattle.voy_disk.specs.Steps.{Does, Every, Follows, Goes, LeavesPrefix, StaysTold};
+ghost use Rattle.voy_disk.specs.Steps.{Does, Follows, Goes, LeavesPrefix, StaysTold};
+ghost use Rattle.voy_export.specs.Put.{AddsSnapshotRecords};
 ghost use Rattle.voy_export.specs.Calls.{AtEnd, Tells, snapshot_entries, snapshot_files, snapshot_steps, all_rows};
 ghost use Rattle.voy_export.specs.Ends.{Stop, finished, snapshot_end};
 ghost use Rattle.voy_export.specs.Exports.{exports_in};
 ghost use Rattle.voy_export.specs.Recording.{recording_of};
 ghost use Rattle.voy_export.specs.Snapshots.{ComesTo, end_from};
-ghost use Rattle.voy_export.specs.Sound.{SoundExports};
 ghost use Rattle.voy_export.specs.Steps.{MayExport, export_step};
 ghost use Rattle.voy_meta.specs.Meta.{MetaStands, meta_name, meta_state};
 ghost use Rattle.voy_meta.specs.Meta.{is_live as meta_live};
@@ -59,15 +59,14 @@ pub fn export_snapshot<D: Disk>(
     ensures live { AtEnd result (IsTrue (meta_live meta.new)) }
     ensures stands { AtEnd result (MetaStands meta.new (D.files export.new)) }
     ensures tables { AtEnd result ((meta_state meta.new).snapshots ≢ [] → (meta_state meta.new).tables ≡ length schema.now.tables) }
+    ensures adds { AtEnd result (AddsSnapshotRecords (meta_state meta.old) (meta_state meta.new)) }
     ensures whole { OnOk result (length (meta_state meta.new).snapshots ≡ length schema.now.tables) }
     // whatever it answers
     ensures prefix { IfTold (D.files recording.old) (λ fs. LeavesPrefix
         (Does (exports_in schema.now.tables) export_step) (snapshot_steps (length schema.now.tables) (length (meta_state meta.old).snapshots)
         (snapshot_end schema.now.tables (now_image fs) (length (meta_state meta.old).snapshots)).added)
         (ImagesOf (D.files export.old)) (ImagesOf (D.files export.new))) }
-    ensures moves { IfTold (D.files recording.old) (λ fs.
-        Every (ImagesOf (D.files export.old)) (λ image. SoundExports (recording_of schema.now.tables (now_image fs)) (exports_in schema.now.tables image))
-        → Goes (exports_in schema.now.tables) export_step (MayExport (recording_of schema.now.tables (now_image fs)))
+    ensures moves { IfTold (D.files recording.old) (λ fs. Goes (exports_in schema.now.tables) export_step (MayExport (recording_of schema.now.tables (now_image fs)))
         (ImagesOf (D.files export.old)) (ImagesOf (D.files export.new))) }
     ensures others { Change (KeepsBeside (OneOf (meta_name ∷ snapshot_files schema.now.tables))) (D.files export.old) (D.files export.new) }
     ensures told_still { StaysTold (ImagesOf (D.files export.old)) (ImagesOf (D.files export.new)) }
@@ -99,6 +98,7 @@ fn export_missing<D: Disk>(
     ensures comes { IfTold (D.files recording.old) (λ fs.
         ComesTo schema.now.tables (now_image fs) (snapshot_end schema.now.tables (now_image fs) (length (meta_state meta.old).snapshots))
         result (meta_state meta.old) (meta_state meta.new) (D.files export.old) (D.files export.new)) }
+    ensures adds { AtEnd result (AddsSnapshotRecords (meta_state meta.old) (meta_state meta.new)) }
     ensures whole { OnOk result (length (meta_state meta.new).snapshots ≡ length schema.now.tables) }
     ensures tables { AtEnd result ((meta_state meta.new).snapshots ≢ [] → (meta_state meta.new).tables ≡ length schema.now.tables) }
     ensures live { AtEnd result (IsTrue (meta_live meta.new)) }
@@ -133,6 +133,7 @@ fn export_tables<D: Disk>(
     ensures comes { IfTold (D.files recording.old) (λ fs.
         ComesTo schema.now.tables (now_image fs) (end_from schema.now.tables (now_image fs) (length (meta_state meta.old).snapshots) 0 0)
         result (meta_state meta.old) (meta_state meta.new) (D.files export.old) (D.files export.new)) }
+    ensures adds { AtEnd result (AddsSnapshotRecords (meta_state meta.old) (meta_state meta.new)) }
     ensures whole { OnOk result (length (meta_state meta.new).snapshots ≡ length schema.now.tables) }
     ensures tables { AtEnd result ((meta_state meta.new).snapshots ≢ [] → (meta_state meta.new).tables ≡ length schema.now.tables) }
     ensures live { AtEnd result (IsTrue (meta_live meta.new)) }

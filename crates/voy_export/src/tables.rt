@@ -7,6 +7,7 @@ ghost use Rattle.voy_disk.specs.Frames.{KeepsBeside, KeepsOtherFiles, OneOf};
 ghost use Rattle.voy_disk.specs.Fronts.{KeepsFront};
 ghost use Rattle.voy_disk.specs.Images.{ImagesOf, now_image};
 ghost use Rattle.voy_disk.specs.Steps.{Does, DoesAll, Follows, Goes, LeavesPrefix, StaysTold};
+ghost use Rattle.voy_export.specs.Put.{AddsSnapshotRecords, IsSnapshotRecord};
 ghost use Rattle.voy_export.specs.Calls.{AtEnd, IsUnnamed, snapshot_entry, snapshot_files};
 ghost use Rattle.voy_export.specs.Exports.{exports_in};
 ghost use Rattle.voy_export.specs.Names.{snapshot_file};
@@ -51,6 +52,7 @@ pub(crate) fn write_snapshot<D: Disk>(
         (AddsSnapshot (snapshot_entry (length schema.now.tables) number rows.now) (row_lines rows.now) ∷ [])
         result (ImagesOf (D.files export.old)) (ImagesOf (D.files export.new)) }
     ensures state { OnOk result (meta_state meta.new ≡ after_record (meta_state meta.old) (snapshot_entry (length schema.now.tables) number rows.now)) }
+    ensures adds { OnOk result (AddsSnapshotRecords (meta_state meta.old) (meta_state meta.new)) }
     ensures live { OnOk result (IsTrue (meta_live meta.new)) }
     ensures stands { OnOk result (MetaStands meta.new (D.files export.new)) }
     // whatever it answers
@@ -97,6 +99,7 @@ fn put_snapshot<D: Disk>(
         (AddsSnapshot (snapshot_entry (length schema.now.tables) number rows.now) (row_lines rows.now) ∷ [])
         result (ImagesOf (D.files export.old)) (ImagesOf (D.files export.new)) }
     ensures state { OnOk result (meta_state meta.new ≡ after_record (meta_state meta.old) (snapshot_entry (length schema.now.tables) number rows.now)) }
+    ensures adds { OnOk result (AddsSnapshotRecords (meta_state meta.old) (meta_state meta.new)) }
     ensures live { OnOk result (IsTrue (meta_live meta.new)) }
     ensures stands { OnOk result (MetaStands meta.new (D.files export.new)) }
     ensures prefix { LeavesPrefix (Does (exports_in schema.now.tables) export_step)
@@ -171,11 +174,13 @@ fn add_text<D: Disk>(export: &mut D, file: &Name, text: &[u8]) -> Result<(), Exp
 
 /// Puts a record.
 fn put_entry<D: Disk>(export: &mut D, meta: &mut Meta, entry: MetaRecord) -> Result<(), ExportError>
+    requires kind { IsSnapshotRecord entry }
     requires live { IsTrue (meta_live meta.old) }
     requires stands { MetaStands meta.old (D.files export.old) }
     requires allowed { IsTrue (is_allowed (meta_state meta.old) entry) }
     ensures all { DoesAll AddsRecords (entry ∷ []) result (ImagesOf (D.files export.old)) (ImagesOf (D.files export.new)) }
     ensures state { OnOk result (meta_state meta.new ≡ after_record (meta_state meta.old) entry) }
+    ensures adds { OnOk result (AddsSnapshotRecords (meta_state meta.old) (meta_state meta.new)) }
     ensures stands { OnOk result (MetaStands meta.new (D.files export.new)) }
     ensures live { OnOk result (IsTrue (meta_live meta.new)) }
     ensures prefix { LeavesPrefix AddsRecords (entry ∷ []) (ImagesOf (D.files export.old)) (ImagesOf (D.files export.new)) }
@@ -212,6 +217,7 @@ fn export_table<D: Disk>(
     requires tables { (meta_state meta.old).snapshots ≢ [] → (meta_state meta.old).tables ≡ length schema.now.tables }
     ensures turns { IfTold (D.files recording.old) (λ fs.
         Turns schema.now.tables (now_image fs) number sum result (meta_state meta.old) (meta_state meta.new) (D.files export.old) (D.files export.new)) }
+    ensures adds { AtEnd result (AddsSnapshotRecords (meta_state meta.old) (meta_state meta.new)) }
     ensures few { IfOk result (λ next. next ≤ MAX_CSV_BYTES) }
     ensures counts { OnOk result (length (meta_state meta.new).snapshots ≡ number + 1) }
     ensures tables { AtEnd result ((meta_state meta.new).snapshots ≢ [] → (meta_state meta.new).tables ≡ length schema.now.tables) }
@@ -253,6 +259,7 @@ pub(crate) fn take_table<D: Disk>(
     requires tables { (meta_state meta.old).snapshots ≢ [] → (meta_state meta.old).tables ≡ length schema.now.tables }
     ensures turns { IfTold (D.files recording.old) (λ fs.
         Turns schema.now.tables (now_image fs) number sum result (meta_state meta.old) (meta_state meta.new) (D.files export.old) (D.files export.new)) }
+    ensures adds { AtEnd result (AddsSnapshotRecords (meta_state meta.old) (meta_state meta.new)) }
     ensures few { IfOk result (λ next. next ≤ MAX_CSV_BYTES) }
     ensures recorded { OnOk result (number + 1 ≤ length (meta_state meta.new).snapshots) }
     ensures whole { OnOk result (length (meta_state meta.old).snapshots ≤ length schema.now.tables → length (meta_state meta.new).snapshots ≤ length schema.now.tables) }

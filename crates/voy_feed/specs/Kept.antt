@@ -1,4 +1,4 @@
--- The changes of a recording, and which of them are kept: a change that the recording gives again is not.
+-- The changes of a recording, and which of them are kept: those at places above all in front of them, so none that is given again.
 use Rattle.std.specs.Prelude.{ℕ, suc, Bool, true, ◌==◌, ◌&&◌, ◌||◌, List, [], ◌∷◌, Option, Some, None, Result, Ok, Err, codes, length, nat_lt, if◌then◌else◌}
 use Rattle.voy_event.specs.RecordedLine.{recorded_line_reading}
 use Rattle.voy_event.specs.declared.line_error.LineWhy.{LineWhy}

@@ -19,9 +19,9 @@ pub(crate) const SEGMENT_BYTES: u64 = 200;
 const CHANGES: u64 = 5;
 
 /// How many outages are tried at each call, and how many ways in which a call that fails leaves its file.
-const CHOICES: u64 = 12;
+const CHOICES: u64 = 50;
 
-const LEAVES: u64 = 5;
+const LEAVES: u64 = 10;
 
 /// One step of the work.
 #[derive(Clone, Copy)]

@@ -1,7 +1,7 @@
 use Rattle.std.proofs.Common.{refl, sym, ap, subst, ◌∙◌, ◌≡◌, Some}
 use Rattle.voy_disk.specs.Files.{Files}
 use Rattle.voy_disk.specs.Images.{now_image}
-use Rattle.voy_export.proofs.ChangeLemmas.{between_ends, changes_between, end_is, goes_where, next_of, start_ended}
+use Rattle.voy_export.proofs.ChangeLemmas.{between_ends, changes_between, end_is, goes_where, next_of, recorded_changes, start_ended}
 use Rattle.voy_export.specs.Calls.{count_changes}
 use Rattle.voy_export.specs.Ends.{ChangesEnd, export_end}
 use Rattle.voy_export.specs.Exports.{exports_in}
@@ -64,3 +64,11 @@ returns-clause-changes g c = λ fs told.
     (between_ends c.end-from.result c.end.result (committed_end c.args.writer.now) (committed_end c.export_turns.new.writer) c.exported_between.result.changes
     (c.end-from.ensures ∙ from) (c.end.ensures ∙ to) c.exported_between.ensures.changes)
     ∙ ap (λ (e : ChangesEnd). count_changes e.puts) (same_end g c fs told)
+
+pub returns-clause-counts : goal.returns-clause-counts
+returns-clause-counts g c =
+    recorded_changes (meta_state c.args.meta.now) (meta_state c.export_turns.new.meta) (writer_role c.args.writer.now) c.end-from.result c.end.result c.exported_between.result.changes
+    (c.end-from.ensures ∙ ap (end_of (committed_end c.args.writer.now)) c.requires.nothing ∙ c.requires.recorded)
+    (c.end.ensures ∙ ap (end_of (committed_end c.export_turns.new.writer)) c.in_ok-export_turns.ensures.nothing ∙ c.in_ok-export_turns.ensures.recorded
+    ∙ ap (recorded_end (meta_state c.export_turns.new.meta)) c.export_turns.ensures.role)
+    c.exported_between.ensures.changes

@@ -4,6 +4,8 @@ use Rattle.voy_disk.specs.Frames.{OneOf}
 use Rattle.voy_disk.specs.Images.{now_image}
 use Rattle.voy_disk.specs.StepLaws.{stays_told_on, told_nothing}
 use Rattle.voy_export.specs.Calls.{snapshot_files}
+use Rattle.voy_export.proofs.SnapshotAdds.{no_snapshots, snapshots_on}
+use Rattle.voy_export.proofs.SnapshotTurns.{at_end_on}
 use Rattle.voy_export.proofs.SnapshotLoop.{finishes}
 use Rattle.voy_export.proofs.SnapshotWrites.{none_beside}
 use Rattle.voy_meta.specs.Meta.{meta_name, meta_state}
@@ -15,6 +17,7 @@ loop-number-init g c = record {
   recorded = omega arith;
   most = c.requires.most;
   leads = λ fs is answer last end behind. behind;
+  adds = no_snapshots (meta_state c.args.meta.now);
   tables = c.requires.tables;
   live = c.requires.live;
   stands = c.requires.stands;
@@ -45,6 +48,7 @@ loop-number-preserved g c =
       recorded = done.recorded;
       most = done.whole before.most;
       leads = λ fs is answer last end behind. before.leads fs is answer last end (done.turns fs (before.same ∙ is) answer last end behind);
+      adds = snapshots_on (meta_state c.args.meta.now) (meta_state c.loop-number.meta) (meta_state c.take_table.new.meta) before.adds done.adds;
       tables = done.tables;
       live = done.live;
       stands = done.stands;
@@ -64,3 +68,8 @@ returns-clause-comes g c = λ fs is.
     let all : c.loop-number.number ≡ length schema = omega (arith, c.loop-number-test.false, c.len-number-end.ensures, before.recorded, before.most) in
     finishes schema (now_image fs) c.loop-number.number c.loop-number.sum (meta_state c.args.meta.now) (meta_state c.loop-number.meta)
     (g.D.Disk.files c.args.export.now) (g.D.Disk.files c.loop-number.export) all (before.leads fs is)
+
+pub returns-in-Err-clause-adds : goal.returns-in-Err-clause-adds
+returns-in-Err-clause-adds g c =
+    at_end_on (Err c.in-Err.error) (λ more. snapshots_on (meta_state c.args.meta.now) (meta_state c.loop-number.meta) (meta_state c.take_table.new.meta) c.loop-number.invariant.adds more)
+    c.in-Err.ensures.adds

@@ -5,6 +5,7 @@ use Rattle.voy_disk.specs.Frames.{KeepsBeside, OneOf}
 use Rattle.voy_disk.specs.Images.{ImagesOf, now_image}
 use Rattle.voy_disk.specs.Steps.{StaysTold}
 use Rattle.voy_export.specs.Calls.{snapshot_files}
+use Rattle.voy_export.specs.Put.{AddsSnapshotRecords}
 use Rattle.voy_export.specs.Snapshots.{LeadsTo, end_from}
 use Rattle.voy_export.specs.declared.limits.TheConstants.{MAX_CSV_BYTES}
 use Rattle.voy_meta.specs.Meta.{MetaStands, is_live, meta_name, meta_state}
@@ -21,6 +22,7 @@ invariant-loop-number g l =
       most : length now.snapshots ≤ length schema;
       leads : IfTold (g.D.Disk.files l.fn.recording) (λ fs. LeadsTo schema (now_image fs) (end_from schema (now_image fs) (length old.snapshots) 0 0)
           (end_from schema (now_image fs) (length now.snapshots) l.number l.sum) old now (g.D.Disk.files l.fn.export) (g.D.Disk.files l.export));
+      adds : AddsSnapshotRecords old now;
       tables : now.snapshots ≢ [] → now.tables ≡ length schema;
       live : IsTrue (is_live l.meta);
       stands : MetaStands l.meta (g.D.Disk.files l.export);
