@@ -10,6 +10,7 @@ mod documents;
 mod events;
 mod files;
 mod journals;
+mod orders;
 mod payloads;
 mod plain;
 mod rows;
@@ -71,6 +72,9 @@ fn came_to(alloc: Global, case: &Case) -> Result<String, Trouble> {
         "journal" => journals::journal(alloc, case),
         "store" => stores::store(alloc, case),
         "stored" => stores::stored(alloc, case),
+        "hash" => orders::hash(alloc, case),
+        "channel" => orders::channels(alloc, case),
+        "conflict" => orders::conflict(alloc, case),
         "words" => words::words(alloc, case),
         "folder" => words::folder(alloc, case),
         _ => Err(Trouble::Case("no such kind")),

@@ -9,7 +9,7 @@ pub fn plain(alloc: Global, case: &Case) -> Result<String, Trouble> {
     let mut plain = Plain::new(alloc, schema_of(alloc, case)?)?;
     let mut shown = String::new(alloc);
     for line in case.rows.lines() {
-        let change = change_of(alloc, line)?;
+        let change = change_of(alloc, 0, line)?;
         let answer = done(alloc, &mut plain, change)?;
         push_answer(&mut shown, line, answer.as_str())?;
     }
@@ -79,7 +79,7 @@ pub fn formed(alloc: Global, case: &Case) -> Result<String, Trouble> {
     let schema = schema_of(alloc, case)?;
     let mut shown = String::new(alloc);
     for line in case.rows.lines() {
-        let change = change_of(alloc, line)?;
+        let change = change_of(alloc, 0, line)?;
         let answer = if well_formed(&schema, &change) {
             "well formed"
         } else {
@@ -90,31 +90,31 @@ pub fn formed(alloc: Global, case: &Case) -> Result<String, Trouble> {
     Ok(shown)
 }
 
-/// The change of the first table that is written `insert ROW`, `update ROW to ROW` or `delete ROW`.
-fn change_of(alloc: Global, line: &str) -> Result<Change, Trouble> {
+/// The change of a table that is written `insert ROW`, `update ROW to ROW` or `delete ROW`.
+pub fn change_of(alloc: Global, table: u32, line: &str) -> Result<Change, Trouble> {
     let (verb, behind) = first_word(line);
     match verb {
         "insert" => Ok(Change::Insert {
-            table: 0,
+            table,
             after: row_of(alloc, behind)?,
         }),
-        "update" => update_of(alloc, behind),
+        "update" => update_of(alloc, table, behind),
         "delete" => Ok(Change::Delete {
-            table: 0,
+            table,
             before: row_of(alloc, behind)?,
         }),
         _ => Err(Trouble::Case("no such change")),
     }
 }
 
-fn update_of(alloc: Global, rows: &str) -> Result<Change, Trouble> {
+fn update_of(alloc: Global, table: u32, rows: &str) -> Result<Change, Trouble> {
     let Some((before, after)) = rows.split_once(" to ") else {
         return Err(Trouble::Case("an update of one row"));
     };
     let before = row_of(alloc, before)?;
     let after = row_of(alloc, after)?;
     Ok(Change::Update {
-        table: 0,
+        table,
         before,
         after,
     })

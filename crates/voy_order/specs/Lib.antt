@@ -1,0 +1,11 @@
+pub mod ChangeEvents
+pub mod Channels
+pub mod Conflicts
+pub mod Marks
+pub mod Runs
+pub mod Histories
+pub mod Laws
+pub mod RunLaws
+pub mod HistoryLaws
+pub mod KeyOrder
+pub mod RowsLost
