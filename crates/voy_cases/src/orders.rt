@@ -57,8 +57,20 @@ const UNIQUE_KEYS: u32 = 3;
 fn ends_of(alloc: Global, schema: &Schema, change: &Change) -> Result<String, Trouble> {
     let mut shown = String::new(alloc);
     for unique in 0..UNIQUE_KEYS {
-        push_end(alloc, "releases", unique, released(schema, change, unique), &mut shown)?;
-        push_end(alloc, "acquires", unique, acquired(schema, change, unique), &mut shown)?;
+        push_end(
+            alloc,
+            "releases",
+            unique,
+            released(schema, change, unique),
+            &mut shown,
+        )?;
+        push_end(
+            alloc,
+            "acquires",
+            unique,
+            acquired(schema, change, unique),
+            &mut shown,
+        )?;
     }
     if shown.is_empty() {
         shown.push_str("nothing")?;
