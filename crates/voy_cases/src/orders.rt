@@ -1,8 +1,9 @@
 use crate::plain::change_of;
 use crate::schemas::schema_of;
+use crate::stores::place_of;
 use crate::values::{push_answer, push_row};
 use std::alloc::Global;
-use voy_case_text::{Case, Trouble, first_word, hexadecimal, number_of};
+use voy_case_text::{Case, Trouble, first_word, hexadecimal};
 use voy_order::{FNV1A_START, acquired, channel, fnv1a, holds, released};
 use voy_schema::{Row, Schema};
 use voy_tables::Change;
@@ -20,12 +21,12 @@ pub fn channels(alloc: Global, case: &Case) -> Result<String, Trouble> {
     let mut shown = String::new(alloc);
     for line in case.rows.lines() {
         let (count, change) = first_word(line);
-        let count = number_of(count)?;
-        if count < 1 || count > u64::from(u32::MAX) {
-            return Err(Trouble::Case("no number of channels"));
+        let count = place_of(count)?;
+        if count < 1 {
+            return Err(Trouble::Case("no channels"));
         }
         let change = numbered_change(alloc, change)?;
-        let channel = channel(&schema, &change, count as u32);
+        let channel = channel(&schema, &change, count);
         let answer = format!(in alloc; "{channel}")?;
         push_answer(&mut shown, line, answer.as_str())?;
     }
@@ -99,6 +100,5 @@ fn push_end(
 /// The change that is written behind the number of its table.
 fn numbered_change(alloc: Global, written: &str) -> Result<Change, Trouble> {
     let (table, change) = first_word(written);
-    let table = number_of(table)?;
-    change_of(alloc, table as u32, change)
+    change_of(alloc, place_of(table)?, change)
 }
