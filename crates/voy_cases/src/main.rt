@@ -5,8 +5,10 @@
 //! order; the gate compares it with the file `stdout`, which comes from there too. A further case takes no proof.
 #![tactic(auto)]
 
+mod caches;
 mod disks;
 mod documents;
+mod drawn;
 mod events;
 mod files;
 mod journals;
@@ -75,6 +77,8 @@ fn came_to(alloc: Global, case: &Case) -> Result<String, Trouble> {
         "hash" => orders::hash(alloc, case),
         "channel" => orders::channels(alloc, case),
         "conflict" => orders::conflict(alloc, case),
+        "cache" => caches::needs_told(alloc, case),
+        "cache-drawn" => drawn::stream_compared(alloc, case),
         "words" => words::words(alloc, case),
         "folder" => words::folder(alloc, case),
         _ => Err(Trouble::Case("no such kind")),

@@ -1,0 +1,15 @@
+pub mod HashLemmas
+pub mod TupleLemmas
+pub mod ApartLemmas
+pub mod WalkLemmas
+pub mod EventLemmas
+pub mod LastLemmas
+pub mod NeedLemmas
+pub mod PutLemmas
+pub mod RangeLemmas
+pub mod CacheLemmas
+pub mod DropLemmas
+pub mod PastLemmas
+pub mod GrowLemmas
+pub mod FewLemmas
+pub mod JoinLemmas
